@@ -1,0 +1,159 @@
+-- Document 01, Audit rules, on the words themselves: one definition a bullet, over what is found by following the words.
+use mathlib.Core.Path.{_≡_}
+use mathlib.Core.Bool.{Bool, true, false, not, _&&_, _||_}
+use mathlib.Core.List.{List, [], _∷_, _++_}
+use lib.Dec.{eqb, leb, ltb}
+use lib.ListN.{length}
+use Prim.Native.Nat.{ℕ, zero, suc, _+_, _*_}
+use Rattle.format.specs.declared.Header.{Header}
+use Rattle.format.specs.declared.Slot.{Slot}
+use Rattle.format.specs.Words.{headerOf, slotAt, slotsIn, freeWeight, headOf}
+use Rattle.tree.specs.Codes.{mostLevel}
+use Rattle.tree.specs.Tree.{Tree, leaf, node, countIn}
+use Rattle.tree.specs.State.{State, state, Top, empty, full}
+
+-- "Slots are numbered from 1; 0 is no slot."
+unfoldable pub isSlot : List ℕ → ℕ → Bool
+isSlot p s = leb 1 s && leb s (slotsIn p)
+
+-- What following left and right finds: nothing, or a slot, its words, and what its left and right lead to.
+pub data Found : Type 0 where
+  nothing : Found
+  found : (s : ℕ) (c : Slot) (l r : Found) → Found
+
+-- From slot s on, at most n slots deep.
+unfoldable pub follow : ℕ → List ℕ → ℕ → Found
+follow zero p s = nothing
+follow (suc n) p s = elim (isSlot p s) [
+  | true ↦ let c = slotAt p s in found s c (follow n p (c .left)) (follow n p (c .right))
+  | false ↦ nothing
+]
+
+-- The free chain from slot s on, at most n slots long, and where it leads when it leaves the slots of the pool (nowhere: it goes on).
+unfoldable pub chain : ℕ → List ℕ → ℕ → List ℕ
+chain zero p s = []
+chain (suc n) p s = elim (isSlot p s) [ true ↦ s ∷ chain n p ((slotAt p s) .left) | false ↦ [] ]
+
+unfoldable pub chainEnds : ℕ → List ℕ → ℕ → Bool
+chainEnds zero p s = true
+chainEnds (suc n) p s = elim (isSlot p s) [ true ↦ chainEnds n p ((slotAt p s) .left) | false ↦ eqb s 0 ]
+
+-- C + 1 slots deep or long is enough: a way of more than C slots passes one of them twice, and shows it.
+unfoldable pub treeFound : List ℕ → Found
+treeFound p = follow (suc (slotsIn p)) p ((headerOf p) .root)
+
+unfoldable pub chainFound : List ℕ → List ℕ
+chainFound p = chain (suc (slotsIn p)) p ((headerOf p) .free)
+
+-- the slots found, the words of a leaf ("A leaf has left and right 0"), and a test at each slot of a list
+unfoldable pub slotsOf : Found → List ℕ
+slotsOf nothing = []
+slotsOf (found s c l r) = s ∷ slotsOf l ++ slotsOf r
+
+unfoldable pub bare : Slot → Bool
+bare c = eqb (c .left) 0 && eqb (c .right) 0
+
+unfoldable pub all : (ℕ → Bool) → List ℕ → Bool
+all P [] = true
+all P (x ∷ xs) = P x && all P xs
+
+-- P at each slot from s on, n of them
+unfoldable pub allFrom : (ℕ → Bool) → ℕ → ℕ → Bool
+allFrom P s zero = true
+allFrom P s (suc n) = P s && allFrom P (suc s) n
+
+unfoldable pub same : Bool → Bool → Bool
+same true b = b
+same false b = not b
+
+-- "Every slot is in the tree exactly once or on the free chain exactly once, never both. N is right. Root is 0 exactly when N is 0."
+unfoldable pub rule-once : List ℕ → Bool
+rule-once p =
+    allFrom (λ s. eqb (countIn s (slotsOf (treeFound p)) + countIn s (chainFound p)) 1) 1 (slotsIn p)
+    && eqb ((headerOf p) .nodes) (length (slotsOf (treeFound p)))
+    && same (eqb ((headerOf p) .root) 0) (eqb ((headerOf p) .nodes) 0)
+
+-- "A free slot is 0, next free slot (0 at the end), 0, 4,294,967,295." (A slot that the chain shares with the tree breaks the first rule.)
+unfoldable pub freeWords : List ℕ → ℕ → Bool
+freeWords p s = let c = slotAt p s in eqb (c .key) 0 && eqb (c .right) 0 && eqb (c .weight) freeWeight
+
+unfoldable pub rule-free : List ℕ → Bool
+rule-free p =
+    all (λ s. not (eqb (countIn s (slotsOf (treeFound p))) 0) || freeWords p s) (chainFound p)
+    && chainEnds (suc (slotsIn p)) p ((headerOf p) .free)
+
+-- "A leaf has left and right 0; an inner node has both from 1 to C."
+unfoldable pub children : List ℕ → Found → Bool
+children p nothing = true
+children p (found s c l r) = (bare c || isSlot p (c .left) && isSlot p (c .right)) && children p l && children p r
+
+unfoldable pub rule-children : List ℕ → Bool
+rule-children p = children p (treeFound p)
+
+-- "Leaf keys in a left subtree are at most the router; leaf keys in a right subtree are greater."
+unfoldable pub leafKeys : Found → List ℕ
+leafKeys nothing = []
+leafKeys (found s c l r) = elim (bare c) [ true ↦ c .key ∷ [] | false ↦ leafKeys l ++ leafKeys r ]
+
+unfoldable pub routed : Found → Bool
+routed nothing = true
+routed (found s c l r) = all (λ k. leb k (c .key)) (leafKeys l) && all (λ k. ltb (c .key) k) (leafKeys r) && routed l && routed r
+
+unfoldable pub rule-order : List ℕ → Bool
+rule-order p = routed (treeFound p)
+
+-- "Weights are 0 to 255. The root's is 1 and counts in nothing. A leaf that is not the root has at least 1."
+unfoldable pub weighed : Found → Bool
+weighed nothing = true
+weighed (found s c l r) = leb (c .weight) mostLevel && (not (bare c) || leb 1 (c .weight)) && weighed l && weighed r
+
+unfoldable pub rootWeighed : Found → Bool
+rootWeighed nothing = true
+rootWeighed (found s c l r) = eqb (c .weight) 1 && weighed l && weighed r
+
+unfoldable pub rule-weights : List ℕ → Bool
+rule-weights p = rootWeighed (treeFound p)
+
+-- "From root to leaf the weights, root's left out, add up to the same number L for every leaf, and L is at most 255."
+-- Each leaf's sum, n being the sum on the way to the node's parent.
+unfoldable pub sumsOf : ℕ → Found → List ℕ
+sumsOf n nothing = []
+sumsOf n (found s c l r) = elim (bare c) [ true ↦ (n + c .weight) ∷ [] | false ↦ sumsOf (n + c .weight) l ++ sumsOf (n + c .weight) r ]
+
+unfoldable pub rootSums : Found → List ℕ
+rootSums nothing = []
+rootSums (found s c l r) = elim (bare c) [ true ↦ 0 ∷ [] | false ↦ sumsOf 0 l ++ sumsOf 0 r ]
+
+unfoldable pub rule-sums : List ℕ → Bool
+rule-sums p = let sums = rootSums (treeFound p) in all (λ n. eqb n (headOf sums)) sums && leb (headOf sums) mostLevel
+
+-- The header's fourth word, "one word that is 0", has a rule of its own: no bullet names it.
+unfoldable pub rule-spare : List ℕ → Bool
+rule-spare p = eqb ((headerOf p) .spare) 0
+
+-- The rules in 01's order, the header's word first. Code 2: "audit rules broken".
+unfoldable pub rules : List ℕ → List Bool
+rules p = rule-spare p ∷ rule-once p ∷ rule-free p ∷ rule-children p ∷ rule-order p ∷ rule-weights p ∷ rule-sums p ∷ []
+
+unfoldable pub allTrue : List Bool → Bool
+allTrue [] = true
+allTrue (b ∷ bs) = b && allTrue bs
+
+unfoldable pub rulesHold : List ℕ → Bool
+rulesHold p = allTrue (rules p)
+
+-- The State that words show, read off what is found; it means something where the rules hold.
+unfoldable pub weightAt : Found → ℕ
+weightAt nothing = 0
+weightAt (found s c l r) = c .weight
+
+unfoldable pub treeOf : Found → Tree
+treeOf nothing = leaf 0 0
+treeOf (found s c l r) = elim (bare c) [ true ↦ leaf s (c .key) | false ↦ node s (c .key) (weightAt l) (treeOf l) (weightAt r) (treeOf r) ]
+
+unfoldable pub topOf : Found → Top
+topOf nothing = empty
+topOf (found s c l r) = full (treeOf (found s c l r))
+
+unfoldable pub stateOf : List ℕ → State
+stateOf p = state (slotsIn p) (topOf (treeFound p)) (chainFound p)

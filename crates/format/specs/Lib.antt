@@ -1,0 +1,5 @@
+pub mod Words
+pub mod Shows
+pub mod Audit
+pub mod Numbers
+pub mod Batch

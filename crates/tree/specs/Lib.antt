@@ -1,0 +1,7 @@
+pub mod Codes
+pub mod Tree
+pub mod Distances
+pub mod Kinds
+pub mod Updates
+pub mod State
+pub mod Settle

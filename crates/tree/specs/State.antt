@@ -1,0 +1,174 @@
+-- What a pool means: C, the tree or none, the free slots in their order; which States are sound; and what each command does to one.
+use mathlib.Core.Path.{_≡_}
+use mathlib.Core.Bool.{Bool, true, false, not, _||_}
+use mathlib.Core.List.{List, [], _∷_}
+use lib.Dec.{eqb, leb, ltb}
+use Prim.Native.Nat.{ℕ, zero, suc, _+_, _*_, _≤_, _<_, _^_}
+use Rattle.tree.specs.declared.Refusal.the-variants.{KeyPresent, KeyAbsent, NoRoom, NoInnerNode, NoSuchKind, ConditionFalse, LevelLimit}
+use Rattle.tree.specs.declared.Kind.{Kind}
+use Rattle.tree.specs.declared.Named.{Named}
+use Rattle.tree.specs.declared.Named.the-variants.{Known, Unknown}
+use Rattle.tree.specs.declared.Refusal.{Refusal}
+use Rattle.tree.specs.declared.Answer.{Answer}
+use Rattle.tree.specs.declared.Answer.the-variants.{Done, Refused, Spent}
+use Rattle.tree.specs.Codes.{mostSlots, mostLevel, kindNumber, named}
+use Rattle.tree.specs.Tree.{Tree, leaf, node, slotOf, isLeaf, size, leaves, count, countIn, keys, Ordered, level, Chromatic}
+use Rattle.tree.specs.Kinds.{holdsAt, conditionAt, stepped, atLimit}
+use Rattle.tree.specs.Updates.{reach, reachedSlot, reachedKey, insertAt, newSlot, deleteAt, Cut}
+use Rattle.tree.specs.Distances.{conflicts, redDistance, overDistance, overEdges, bound}
+
+-- "root slot (0 if empty)": nothing, or a tree
+pub data Top : Type 0 where
+  empty : Top
+  full : Tree → Top
+
+pub record State : Type 0 where
+  pub slots : ℕ
+  pub top : Top
+  pub free : List ℕ
+
+abbrev pub state : ℕ → Top → List ℕ → State
+state c t fs = record { slots = c; top = t; free = fs }
+
+-- N, "the slots in the tree"; the keys; how often slot s stands in the tree
+unfoldable pub nodes : Top → ℕ
+nodes empty = 0
+nodes (full t) = size t
+
+unfoldable pub keysOf : Top → List ℕ
+keysOf empty = []
+keysOf (full t) = keys t
+
+unfoldable pub countTop : ℕ → Top → ℕ
+countTop s empty = 0
+countTop s (full t) = count s t
+
+-- Keys are 32-bit numbers: from 0 to below this.
+abbrev pub keyEnd : ℕ
+keyEnd = 2 ^ 32
+
+-- What the audit rules ask of the tree alone: order, weights, sums. ("Weights are 0 to 255" follows from L at most 255.)
+pub record Good (t : Tree) : Type 0 where
+  pub ordered : Ordered 0 keyEnd t
+  pub chromatic : Chromatic 1 t
+  pub low : level t ≤ mostLevel
+
+unfoldable pub GoodTop : Top → Type 0
+GoodTop empty = Unit {0}
+GoodTop (full t) = Good t
+
+-- "Every slot is in the tree exactly once or on the free chain exactly once, never both", and no other number is in either.
+pub record Sound (S : State) : Type 0 where
+  pub some : 1 ≤ S .slots
+  pub few : S .slots ≤ mostSlots
+  pub once : (s : ℕ) → 1 ≤ s → s ≤ S .slots → countTop s (S .top) + countIn s (S .free) ≡ 1
+  pub none-zero : countTop 0 (S .top) + countIn 0 (S .free) ≡ 0
+  pub none-above : (s : ℕ) → S .slots < s → countTop s (S .top) + countIn s (S .free) ≡ 0
+  pub good : GoodTop (S .top)
+
+-- "Prepare makes a pool empty: [..] all slots free, chained 1, 2, .. C."
+unfoldable pub upwards : ℕ → ℕ → List ℕ
+upwards s zero = []
+upwards s (suc n) = s ∷ upwards (suc s) n
+
+unfoldable pub prepared : ℕ → State
+prepared c = state c empty (upwards 1 c)
+
+-- a command's answer, and the State after it
+pub record Outcome : Type 0 where
+  pub answer : Answer
+  pub after : State
+
+abbrev pub gives : Answer → State → Outcome
+gives a S = record { answer = a; after = S }
+
+-- "Codes 5 to 11 change no pool word"
+abbrev pub refuses : Refusal → State → Outcome
+refuses f S = gives (Refused f) S
+
+-- Search: "the leaf's slot", or 6 "key absent".
+unfoldable pub search : ℕ → State → Outcome
+search x S = elim (S .top) [
+  | empty ↦ refuses KeyAbsent S
+  | full t ↦ elim (eqb (reachedKey x t) x) [ true ↦ gives (Done (reachedSlot x t)) S | false ↦ refuses KeyAbsent S ]
+]
+
+-- Insert: 5 "key present", 7 "fewer free slots than needed (1 if empty, else 2)", or "the new key's slot".
+-- "Taking a slot takes the chain's head."
+unfoldable pub insertFirst : ℕ → ℕ → List ℕ → Outcome
+insertFirst x c [] = refuses NoRoom (state c empty [])
+insertFirst x c (a ∷ fs) = gives (Done a) (state c (full (leaf a x)) fs)
+
+unfoldable pub insertMore : ℕ → ℕ → Tree → List ℕ → Outcome
+insertMore x c t [] = refuses NoRoom (state c (full t) [])
+insertMore x c t (a ∷ []) = refuses NoRoom (state c (full t) (a ∷ []))
+insertMore x c t (a ∷ (b ∷ fs)) = gives (Done (newSlot x (reachedKey x t) a b)) (state c (full ((insertAt x a b 1 t) .1)) fs)
+
+unfoldable pub insert : ℕ → State → Outcome
+insert x S = elim (S .top) [
+  | empty ↦ insertFirst x (S .slots) (S .free)
+  | full t ↦ elim (eqb (reachedKey x t) x) [ true ↦ refuses KeyPresent S | false ↦ insertMore x (S .slots) t (S .free) ]
+]
+
+-- Delete: 6 "key absent", or "keys left". "A root leaf is freed." "The leaf's slot is freed first, then the sibling's", and
+-- "freeing puts a slot at the head".
+unfoldable pub deleted : ℕ → ℕ → Tree → List ℕ → Outcome
+deleted x c (leaf s k) fs = gives (Done 0) (state c empty (s ∷ fs))
+deleted x c (node v k wl l wr r) fs =
+    let d = deleteAt x 1 (node v k wl l wr r) in gives (Done (leaves (d .tree))) (state c (full (d .tree)) (d .siblingSlot ∷ (d .leafSlot ∷ fs)))
+
+unfoldable pub delete : ℕ → State → Outcome
+delete x S = elim (S .top) [
+  | empty ↦ refuses KeyAbsent S
+  | full t ↦ elim (eqb (reachedKey x t) x) [ true ↦ deleted x (S .slots) t (S .free) | false ↦ refuses KeyAbsent S ]
+]
+
+-- Step. 8: "slot is 0, above C, free or a leaf"; 9: "kind not 1 to 8"; 10: "condition false"; 11: "kind 1 at the root with L = 255".
+unfoldable pub leafAt : ℕ → Tree → Bool
+leafAt s t = holdsAt (λ w u. isLeaf u) s 1 t
+
+unfoldable pub noInner : ℕ → State → Tree → Bool
+noInner s S t = eqb s 0 || ltb (S .slots) s || not (eqb (countIn s (S .free)) 0) || leafAt s t
+
+unfoldable pub stepKind : ℕ → Kind → State → Tree → Outcome
+stepKind s k S t = elim (conditionAt k s t) [
+  | true ↦ elim (atLimit k s t) [ true ↦ refuses LevelLimit S | false ↦ gives (Done (kindNumber k)) (state (S .slots) (full (stepped k s t)) (S .free)) ]
+  | false ↦ refuses ConditionFalse S
+]
+
+unfoldable pub stepNamed : ℕ → Named → State → Tree → Outcome
+stepNamed s Unknown S t = refuses NoSuchKind S
+stepNamed s (Known k) S t = stepKind s k S t
+
+unfoldable pub step : ℕ → ℕ → State → Outcome
+step s n S = elim (S .top) [
+  | empty ↦ refuses NoInnerNode S
+  | full t ↦ elim (noInner s S t) [ true ↦ refuses NoInnerNode S | false ↦ stepNamed s (named n) S t ]
+]
+
+-- The report's seven numbers: "N, L, overweighted edges, R, D, Q, and (3N+1)D + 2NR + Q".
+pub record Figures : Type 0 where
+  pub nodeCount : ℕ
+  pub weightedLength : ℕ
+  pub overweightEdges : ℕ
+  pub redConflicts : ℕ
+  pub overweightDistance : ℕ
+  pub redRedDistance : ℕ
+  pub stepBound : ℕ
+
+-- "L is 0 for an empty tree or one leaf."
+unfoldable pub report : Top → Figures
+report empty = record { nodeCount = 0; weightedLength = 0; overweightEdges = 0; redConflicts = 0; overweightDistance = 0; redRedDistance = 0; stepBound = 0 }
+report (full t) = record {
+  nodeCount = size t;
+  weightedLength = level t;
+  overweightEdges = overEdges t;
+  redConflicts = conflicts t;
+  overweightDistance = overDistance (size t) t;
+  redRedDistance = redDistance (size t) t;
+  stepBound = bound t;
+}
+
+-- "The exported report takes an index, 1 first, and returns that number, 0 for [..] any other index."
+unfoldable pub figures : Figures → List ℕ
+figures f = f .nodeCount ∷ f .weightedLength ∷ f .overweightEdges ∷ f .redConflicts ∷ f .overweightDistance ∷ f .redRedDistance ∷ f .stepBound ∷ []
