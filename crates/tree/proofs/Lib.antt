@@ -1,7 +1,15 @@
-pub mod Relation
 pub mod KindNumbers
+pub mod Tests
+pub mod Levels
+pub mod SoundStates
+pub mod Relation
 pub mod Steps
 pub mod StepKeys
 pub mod StepLevels
 pub mod Mirror
 pub mod StepState
+pub mod Order
+pub mod Search
+pub mod Insert
+pub mod Delete
+pub mod Updated

@@ -26,6 +26,7 @@ use Rattle.tree.specs.Settle.{allowed}
 use Rattle.tree.proofs.KindNumbers.{named-number}
 use Rattle.tree.proofs.Steps.{two-true, innerAt, holdsAt-present, holdsAt-not, step-inner, made}
 use Rattle.tree.proofs.StepKeys.{step-slots, step-keys, step-ordered}
+use Rattle.tree.proofs.SoundStates.{sound-moved}
 use Rattle.tree.proofs.StepLevels.{step-chromatic, step-low}
 
 pub all-false : (a b c d : Bool) → (a || b || c || d) ≡ false → (a ≡ false) × (b ≡ false) × (c ≡ false) × (d ≡ false)
@@ -69,14 +70,7 @@ module _ (S : State) (t : Tree) (h : Sound S) (e : S .top ≡ full t) where
   -- another tree of the same slots, and good too, in its place
   pub sound-replaced : (u : Tree) → ((s : ℕ) → count s u ≡ count s t) → Good u → Sound (state (S .slots) (full u) (S .free))
   unfolding countTop GoodTop
-  sound-replaced u same good = record {
-    some = h .some;
-    few = h .few;
-    once = λ s a b. omega (arith, same s, tree-count s, h .once s a b);
-    none-zero = omega (arith, same 0, tree-count 0, h .none-zero);
-    none-above = λ s a. omega (arith, same s, tree-count s, h .none-above s a);
-    good = good;
-  }
+  sound-replaced u same good = sound-moved h refl (λ s. omega (arith, same s, tree-count s)) good
 
   -- 8: "slot is 0, above C, free or a leaf", exactly where no inner node has it
   pub no-inner-exactly : (s : ℕ) → (noInner s S t ≡ false) ↔ (innerAt s 1 t ≡ true)

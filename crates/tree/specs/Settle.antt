@@ -1,5 +1,4 @@
 -- Document 01: allowed steps, and settle as the list of trees that it goes through.
-use mathlib.Core.Path.{_≡_}
 use mathlib.Core.Bool.{Bool, true, false, not, _&&_}
 use mathlib.Core.List.{List, [], _∷_}
 use mathlib.Core.Option.{Option, none, some}
@@ -7,11 +6,11 @@ use lib.ListN.{length}
 use Prim.Native.Nat.{ℕ, zero, suc}
 use Rattle.tree.specs.declared.Kind.{Kind}
 use Rattle.tree.specs.declared.Answer.{Answer}
-use Rattle.tree.specs.declared.Answer.the-variants.{Done, Refused, Spent}
+use Rattle.tree.specs.declared.Answer.the-variants.{Done, Spent}
 use Rattle.tree.specs.Codes.{kinds}
 use Rattle.tree.specs.Tree.{Tree}
 use Rattle.tree.specs.Kinds.{conditionAt, stepped, atLimit}
-use Rattle.tree.specs.State.{State, state, Top, empty, full, Outcome, gives}
+use Rattle.tree.specs.State.{State, state, empty, full, Outcome, gives}
 
 -- "An allowed step is a slot and kind that would be accepted."
 unfoldable pub allowed : ℕ → Kind → Tree → Bool

@@ -2,19 +2,19 @@
 use mathlib.Core.Path.{_≡_}
 use mathlib.Core.Bool.{Bool, true, false, not, _||_}
 use mathlib.Core.List.{List, [], _∷_}
-use lib.Dec.{eqb, leb, ltb}
-use Prim.Native.Nat.{ℕ, zero, suc, _+_, _*_, _≤_, _<_, _^_}
+use lib.Dec.{eqb, ltb}
+use Prim.Native.Nat.{ℕ, zero, suc, _+_, _≤_, _<_, _^_}
 use Rattle.tree.specs.declared.Refusal.the-variants.{KeyPresent, KeyAbsent, NoRoom, NoInnerNode, NoSuchKind, ConditionFalse, LevelLimit}
 use Rattle.tree.specs.declared.Kind.{Kind}
 use Rattle.tree.specs.declared.Named.{Named}
 use Rattle.tree.specs.declared.Named.the-variants.{Known, Unknown}
 use Rattle.tree.specs.declared.Refusal.{Refusal}
 use Rattle.tree.specs.declared.Answer.{Answer}
-use Rattle.tree.specs.declared.Answer.the-variants.{Done, Refused, Spent}
+use Rattle.tree.specs.declared.Answer.the-variants.{Done, Refused}
 use Rattle.tree.specs.Codes.{mostSlots, mostLevel, kindNumber, named}
-use Rattle.tree.specs.Tree.{Tree, leaf, node, slotOf, isLeaf, size, leaves, count, countIn, keys, Ordered, level, Chromatic}
+use Rattle.tree.specs.Tree.{Tree, leaf, node, isLeaf, size, leaves, count, countIn, keys, Ordered, level, Chromatic}
 use Rattle.tree.specs.Kinds.{holdsAt, conditionAt, stepped, atLimit}
-use Rattle.tree.specs.Updates.{reach, reachedSlot, reachedKey, insertAt, newSlot, deleteAt, Cut}
+use Rattle.tree.specs.Updates.{reachedSlot, reachedKey, insertAt, newSlot, deleteAt}
 use Rattle.tree.specs.Distances.{conflicts, redDistance, overDistance, overEdges, bound}
 
 -- "root slot (0 if empty)": nothing, or a tree
