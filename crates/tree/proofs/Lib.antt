@@ -4,6 +4,7 @@ pub mod Levels
 pub mod SoundStates
 pub mod Relation
 pub mod Steps
+pub mod StepShape
 pub mod StepKeys
 pub mod StepLevels
 pub mod Mirror
@@ -13,3 +14,11 @@ pub mod Search
 pub mod Insert
 pub mod Delete
 pub mod Updated
+pub mod Below
+pub mod Limits
+pub mod Bound
+pub mod Progress
+pub mod Depth
+pub mod Settling
+pub mod Settled
+pub mod Demand3

@@ -25,7 +25,8 @@ use Rattle.tree.specs.State.{Top, empty, full, State, state, countTop, k
 use Rattle.tree.specs.Settle.{allowed}
 use Rattle.tree.proofs.KindNumbers.{named-number}
 use Rattle.tree.proofs.Steps.{two-true, innerAt, holdsAt-present, holdsAt-not, step-inner, made}
-use Rattle.tree.proofs.StepKeys.{step-slots, step-keys, step-ordered}
+use Rattle.tree.proofs.StepShape.{step-slots}
+use Rattle.tree.proofs.StepKeys.{step-keys, step-ordered}
 use Rattle.tree.proofs.SoundStates.{sound-moved}
 use Rattle.tree.proofs.StepLevels.{step-chromatic, step-low}
 
