@@ -1,5 +1,6 @@
 pub mod KindNumbers
 pub mod Tests
+pub mod Counts
 pub mod Levels
 pub mod SoundStates
 pub mod Relation
