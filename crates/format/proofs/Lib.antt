@@ -3,5 +3,14 @@ pub mod Frame
 pub mod Replace
 pub mod Shown
 pub mod Cover
+pub mod RulesTests
+pub mod RulesSlots
+pub mod RulesSums
+pub mod RulesOrder
+pub mod RulesChain
+pub mod RulesFound
+pub mod RulesTop
+pub mod RulesFacts
+pub mod Rules
 pub mod Worked
 pub mod Damage
