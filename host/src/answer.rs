@@ -1,0 +1,244 @@
+//! What the library answers: one type for each operation, with a case for each cause, and no `Option` anywhere.
+
+use crate::batch::Command;
+
+/// Why a call was refused whole. Pool and answers are as they were.
+#[derive(Clone, Copy, Debug, PartialEq, Eq)]
+#[must_use]
+pub enum Refused {
+    /// Code 1: the pool's length is not 4 + 4C with C from 1 to 1,023.
+    WrongLength,
+    /// Code 2: the pool breaks an audit rule. What it says about marks means nothing: send no text by it.
+    RulesBroken,
+    /// Code 3: a command is unknown, cut short, not in shortest form, too large, or the 257th.
+    BadCommand {
+        /// Where the first such command begins, counted from 0.
+        byte: u32,
+    },
+    /// Code 4: fewer than two answer words per command.
+    FewAnswers,
+}
+
+impl Refused {
+    /// The code of [`Refused::WrongLength`].
+    pub const WRONG_LENGTH: u32 = 1;
+    /// The code of [`Refused::RulesBroken`].
+    pub const RULES_BROKEN: u32 = 2;
+    /// The code of [`Refused::BadCommand`].
+    pub const BAD_COMMAND: u32 = 3;
+    /// The code of [`Refused::FewAnswers`].
+    pub const FEW_ANSWERS: u32 = 4;
+
+    /// A call's answer, good or refused.
+    pub(crate) fn check(code: u32, number: u32) -> Result<(), Refused> {
+        match code {
+            0 => Ok(()),
+            Refused::WRONG_LENGTH => Err(Refused::WrongLength),
+            Refused::RULES_BROKEN => Err(Refused::RulesBroken),
+            Refused::BAD_COMMAND => Err(Refused::BadCommand { byte: number }),
+            Refused::FEW_ANSWERS => Err(Refused::FewAnswers),
+            _ => foreign(code),
+        }
+    }
+}
+
+/// A search's answer.
+#[derive(Clone, Copy, Debug, PartialEq, Eq)]
+#[must_use]
+pub enum Searched {
+    /// Code 0: the key is in the set.
+    Told {
+        /// Its leaf's slot.
+        slot: u32,
+    },
+    /// Code 6: the key is not in the set. It allows no text: only [`Inserted::Told`] does.
+    KeyAbsent,
+}
+
+impl Searched {
+    /// The code of [`Searched::KeyAbsent`], and of [`Deleted::KeyAbsent`].
+    pub const KEY_ABSENT: u32 = 6;
+}
+
+/// The mark that one insert made. It cannot be made up, copied or cloned: who has it may send one text for its key.
+#[derive(Debug, PartialEq, Eq)]
+#[must_use = "the key is marked as told: whoever holds the mark sends the text"]
+pub struct Mark {
+    key: u32,
+    slot: u32,
+}
+
+impl Mark {
+    /// The key that was marked.
+    pub fn key(&self) -> u32 {
+        self.key
+    }
+
+    /// The slot of the key's leaf.
+    pub fn slot(&self) -> u32 {
+        self.slot
+    }
+}
+
+/// An insert's answer. Three cases with three meanings: there is no "it failed", which could be read as "not yet".
+#[derive(Debug, PartialEq, Eq)]
+#[must_use = "whether the key is marked is in here"]
+pub enum Inserted {
+    /// Code 0: the key was absent, and this call marked it.
+    Told(Mark),
+    /// Code 5: the key was in the set before. It has had its text.
+    KeyPresent,
+    /// Code 7: the key is not in the set and no slots are left for it. Asking again changes nothing, until a delete
+    /// makes room. No text may go: nothing would remember it.
+    NoRoom,
+}
+
+impl Inserted {
+    /// The code of [`Inserted::KeyPresent`].
+    pub const KEY_PRESENT: u32 = 5;
+    /// The code of [`Inserted::NoRoom`].
+    pub const NO_ROOM: u32 = 7;
+}
+
+/// A delete's answer.
+#[derive(Clone, Copy, Debug, PartialEq, Eq)]
+#[must_use]
+pub enum Deleted {
+    /// Code 0: the key was in the set and no longer is.
+    Cleared {
+        /// How many keys the set still has.
+        keys_left: u32,
+    },
+    /// Code 6: the key was not in the set.
+    KeyAbsent,
+}
+
+/// A step's answer.
+#[derive(Clone, Copy, Debug, PartialEq, Eq)]
+#[must_use]
+pub enum Stepped {
+    /// Code 0: the step was taken.
+    Taken,
+    /// Code 8: the slot is 0, above C, free or a leaf.
+    NoInnerNode,
+    /// Code 10: the kind's condition does not hold there.
+    ConditionFalse,
+    /// Code 11: kind 1 at the root would raise L above 255.
+    TooTall,
+}
+
+impl Stepped {
+    /// The code of [`Stepped::NoInnerNode`].
+    pub const NO_INNER_NODE: u32 = 8;
+    /// "kind not 1 to 8"; no [`Kind`](crate::Kind) gets it.
+    pub const NO_KIND: u32 = 9;
+    /// The code of [`Stepped::ConditionFalse`].
+    pub const CONDITION_FALSE: u32 = 10;
+    /// The code of [`Stepped::TooTall`].
+    pub const TOO_TALL: u32 = 11;
+}
+
+/// A settle's answer. Its steps stand in both cases.
+#[derive(Clone, Copy, Debug, PartialEq, Eq)]
+#[must_use]
+pub enum Settled {
+    /// Code 0: no step is allowed any more; the tree is red-black.
+    RedBlack {
+        /// Steps taken.
+        steps: u32,
+    },
+    /// Code 12: the budget is spent and a step is still allowed. Not a refusal: settle again when there is time.
+    BudgetSpent {
+        /// Steps taken, which is the budget.
+        steps: u32,
+    },
+}
+
+impl Settled {
+    /// The code of [`Settled::BudgetSpent`].
+    pub const BUDGET_SPENT: u32 = 12;
+}
+
+/// A command of a batch with its answer. A refused command changed no pool word and did not stop those after it.
+#[derive(Debug, PartialEq, Eq)]
+#[must_use]
+#[allow(missing_docs)]
+pub enum Answer {
+    Search { key: u32, answer: Searched },
+    Insert { key: u32, answer: Inserted },
+    Delete { key: u32, answer: Deleted },
+    Step { slot: u32, answer: Stepped },
+    Settle { budget: u32, answer: Settled },
+}
+
+impl Answer {
+    /// The command's answer from its two words.
+    pub(crate) fn read(command: Command, code: u32, number: u32) -> Answer {
+        match command {
+            Command::Search { key } => Answer::Search { key, answer: Searched::read(code, number) },
+            Command::Insert { key } => Answer::Insert { key, answer: Inserted::read(key, code, number) },
+            Command::Delete { key } => Answer::Delete { key, answer: Deleted::read(code, number) },
+            Command::Step { slot, .. } => Answer::Step { slot, answer: Stepped::read(code) },
+            Command::Settle { budget } => Answer::Settle { budget, answer: Settled::read(code, number) },
+        }
+    }
+}
+
+impl Searched {
+    pub(crate) fn read(code: u32, number: u32) -> Searched {
+        match code {
+            0 => Searched::Told { slot: number },
+            Searched::KEY_ABSENT => Searched::KeyAbsent,
+            _ => foreign(code),
+        }
+    }
+}
+
+impl Inserted {
+    pub(crate) fn read(key: u32, code: u32, number: u32) -> Inserted {
+        match code {
+            0 => Inserted::Told(Mark { key, slot: number }),
+            Inserted::KEY_PRESENT => Inserted::KeyPresent,
+            Inserted::NO_ROOM => Inserted::NoRoom,
+            _ => foreign(code),
+        }
+    }
+}
+
+impl Deleted {
+    pub(crate) fn read(code: u32, number: u32) -> Deleted {
+        match code {
+            0 => Deleted::Cleared { keys_left: number },
+            Searched::KEY_ABSENT => Deleted::KeyAbsent,
+            _ => foreign(code),
+        }
+    }
+}
+
+impl Stepped {
+    pub(crate) fn read(code: u32) -> Stepped {
+        match code {
+            0 => Stepped::Taken,
+            Stepped::NO_INNER_NODE => Stepped::NoInnerNode,
+            Stepped::CONDITION_FALSE => Stepped::ConditionFalse,
+            Stepped::TOO_TALL => Stepped::TooTall,
+            _ => foreign(code),
+        }
+    }
+}
+
+impl Settled {
+    pub(crate) fn read(code: u32, number: u32) -> Settled {
+        match code {
+            0 => Settled::RedBlack { steps: number },
+            Settled::BUDGET_SPENT => Settled::BudgetSpent { steps: number },
+            _ => foreign(code),
+        }
+    }
+}
+
+/// The library is proved to give no such code, so some other archive was linked. Stopping sends no text.
+#[cold]
+fn foreign(code: u32) -> ! {
+    panic!("code {code} does not belong to this operation: the archive is not the chromatic library")
+}

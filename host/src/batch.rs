@@ -1,0 +1,157 @@
+//! What the host asks: commands, and the bytes that carry them.
+
+/// The kind of a step, 1 to 8 in document 01's table. With this type code 9, "kind not 1 to 8", cannot occur.
+#[derive(Clone, Copy, Debug, PartialEq, Eq)]
+#[allow(missing_docs)]
+pub enum Kind {
+    One = 1,
+    Two = 2,
+    Three = 3,
+    Four = 4,
+    Five = 5,
+    Six = 6,
+    Seven = 7,
+    Eight = 8,
+}
+
+impl Kind {
+    /// All eight, in order.
+    pub const ALL: [Kind; 8] = [Kind::One, Kind::Two, Kind::Three, Kind::Four, Kind::Five, Kind::Six, Kind::Seven, Kind::Eight];
+}
+
+/// One command of a batch.
+#[derive(Clone, Copy, Debug, PartialEq, Eq)]
+#[allow(missing_docs)]
+pub enum Command {
+    Search { key: u32 },
+    Insert { key: u32 },
+    Delete { key: u32 },
+    Step { slot: u32, kind: Kind },
+    Settle { budget: u32 },
+}
+
+/// "at most 4,294,967,295" in seven-bit groups.
+const LONGEST_NUMBER: usize = 5;
+
+impl Command {
+    /// The most bytes that one command takes: an operation and two arguments.
+    pub const LONGEST: usize = 1 + 2 * LONGEST_NUMBER;
+
+    /// The operation's number and its arguments; the second is missing where the operation has but one.
+    fn numbers(self) -> (u32, u32, Option<u32>) {
+        match self {
+            Command::Search { key } => (1, key, None),
+            Command::Insert { key } => (2, key, None),
+            Command::Delete { key } => (3, key, None),
+            Command::Step { slot, kind } => (4, slot, Some(kind as u32)),
+            Command::Settle { budget } => (5, budget, None),
+        }
+    }
+
+    /// Writes the command at the beginning of `bytes`, which has room for it, and gives how many bytes it took.
+    pub(crate) fn write(self, bytes: &mut [u8]) -> usize {
+        let (operation, first, second) = self.numbers();
+        let mut len = write_number(operation, bytes);
+        len += write_number(first, &mut bytes[len..]);
+        if let Some(second) = second {
+            len += write_number(second, &mut bytes[len..]);
+        }
+        len
+    }
+}
+
+/// The shortest form: no group of zeros at the end.
+fn write_number(mut value: u32, bytes: &mut [u8]) -> usize {
+    let mut len = 0;
+    while value >= 0x80 {
+        bytes[len] = value as u8 | 0x80;
+        value >>= 7;
+        len += 1;
+    }
+    bytes[len] = value as u8;
+    len + 1
+}
+
+/// The batch has its 256 commands: run it, and begin another. The command was not added.
+#[derive(Clone, Copy, Debug, PartialEq, Eq)]
+pub struct Full;
+
+/// Commands to run in one call, in order.
+///
+/// It writes numbers in their shortest form and holds at most 256 commands, and [`Pool::run`](crate::Pool::run) lends
+/// answer room for all of them, so that no batch built here is refused with code 3 or 4.
+#[derive(Clone)]
+pub struct Batch {
+    commands: [Command; Batch::MOST],
+    len: usize,
+}
+
+impl Batch {
+    /// "At most 256 commands."
+    pub const MOST: usize = 256;
+    /// The most bytes of a good batch.
+    pub const LONGEST: usize = Batch::MOST * Command::LONGEST;
+
+    /// A batch without commands, which is good and changes nothing.
+    pub const fn new() -> Batch {
+        Batch { commands: [Command::Search { key: 0 }; Batch::MOST], len: 0 }
+    }
+
+    /// Adds a command. Its answer is the one at the same place in [`Answers`](crate::Answers).
+    pub fn add(&mut self, command: Command) -> Result<(), Full> {
+        let place = self.commands.get_mut(self.len).ok_or(Full)?;
+        *place = command;
+        self.len += 1;
+        Ok(())
+    }
+
+    /// Adds "is the key in the set?"
+    pub fn search(&mut self, key: u32) -> Result<(), Full> {
+        self.add(Command::Search { key })
+    }
+
+    /// Adds "mark the key".
+    pub fn insert(&mut self, key: u32) -> Result<(), Full> {
+        self.add(Command::Insert { key })
+    }
+
+    /// Adds "clear the key's mark".
+    pub fn delete(&mut self, key: u32) -> Result<(), Full> {
+        self.add(Command::Delete { key })
+    }
+
+    /// Adds one step of balancing at a slot.
+    pub fn step(&mut self, slot: u32, kind: Kind) -> Result<(), Full> {
+        self.add(Command::Step { slot, kind })
+    }
+
+    /// Adds balancing until no step is allowed or `budget` steps are taken.
+    pub fn settle(&mut self, budget: u32) -> Result<(), Full> {
+        self.add(Command::Settle { budget })
+    }
+
+    /// The commands added so far.
+    pub fn commands(&self) -> &[Command] {
+        &self.commands[..self.len]
+    }
+
+    /// Takes all commands out again.
+    pub fn clear(&mut self) {
+        self.len = 0;
+    }
+
+    /// Writes the batch's bytes and gives how many there are.
+    pub fn write(&self, bytes: &mut [u8; Batch::LONGEST]) -> usize {
+        let mut len = 0;
+        for command in self.commands() {
+            len += command.write(&mut bytes[len..]);
+        }
+        len
+    }
+}
+
+impl Default for Batch {
+    fn default() -> Batch {
+        Batch::new()
+    }
+}

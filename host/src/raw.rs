@@ -1,0 +1,52 @@
+//! The library's four functions as they are declared in C, and over each a safe function on slices.
+//!
+//! Every declaration and all unsafe code of this crate stand here. Nothing checks a declaration against the library's
+//! source but the tests. The library has no precondition: each function answers for every input.
+
+mod c {
+    #[link(name = "chromatic", kind = "static")]
+    extern "C" {
+        pub fn chromatic_prepare(pool: *mut u32, pool_len: usize) -> u32;
+        pub fn chromatic_audit(pool: *const u32, pool_len: usize) -> u32;
+        pub fn chromatic_report(pool: *const u32, pool_len: usize, index: u32) -> u64;
+        pub fn chromatic_batch(
+            pool: *mut u32,
+            pool_len: usize,
+            batch: *const u8,
+            batch_len: usize,
+            answers: *mut u32,
+            answers_len: usize,
+        ) -> u64;
+    }
+}
+
+/// Makes a pool empty. Gives 0; or 1, changing nothing, if the length is not 4 + 4C with C from 1 to 1,023.
+pub fn prepare(pool: &mut [u32]) -> u32 {
+    // SAFETY: pointer and length are those of a live slice that is lent exclusively for the call.
+    unsafe { c::chromatic_prepare(pool.as_mut_ptr(), pool.len()) }
+}
+
+/// Gives 0 if the pool keeps every audit rule, 1 for a wrong length, 2 for a broken rule.
+///
+/// Proved: `audit-exact`.
+pub fn audit(pool: &[u32]) -> u32 {
+    // SAFETY: pointer and length are those of a live slice that is lent for the call.
+    unsafe { c::chromatic_audit(pool.as_ptr(), pool.len()) }
+}
+
+/// Number `index` of the report, 1 first: N, L, overweighted edges, R, D, Q, bound. Gives 0 for a refused pool and for
+/// any other index.
+pub fn report(pool: &[u32], index: u32) -> u64 {
+    // SAFETY: pointer and length are those of a live slice that is lent for the call.
+    unsafe { c::chromatic_report(pool.as_ptr(), pool.len(), index) }
+}
+
+/// Runs the commands in `batch` and fills two answer words for each; words of `answers` after those stay. Gives 0; or,
+/// changing nothing, a refusal's code (1, 3, 4 or 2, tried in that order) times 4,294,967,296 plus its number.
+///
+/// Proved: `decides`, `history`.
+pub fn batch(pool: &mut [u32], batch: &[u8], answers: &mut [u32]) -> u64 {
+    // SAFETY: pointers and lengths are those of live slices; the two that are written are lent exclusively, so no two
+    // overlap.
+    unsafe { c::chromatic_batch(pool.as_mut_ptr(), pool.len(), batch.as_ptr(), batch.len(), answers.as_mut_ptr(), answers.len()) }
+}

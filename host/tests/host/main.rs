@@ -1,0 +1,14 @@
+//! Tests of the library behind the crate `chromatic`. They know it by its four functions only, and compare it with the
+//! twin (twin/), which is document 01 written again.
+//!
+//! Lines that begin with "seed", "compared" or "measured" are for host/test to show.
+
+mod api;
+mod damage;
+mod hurtful;
+mod pair;
+mod pools;
+mod random;
+mod rng;
+mod twin;
+mod worked;

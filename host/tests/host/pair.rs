@@ -1,0 +1,162 @@
+//! The library and the twin side by side.
+
+use crate::twin::{self, Answer, Command, Set};
+use chromatic::raw;
+
+/// What answer words hold before a call.
+pub const UNTOUCHED: u32 = 0xA5A5_0000;
+
+/// Words lent from the middle of others, which a call must leave alone.
+pub struct Lent(Vec<u32>);
+
+const BESIDE: [u32; 8] = [0x0DD_BA11; 8];
+
+impl Lent {
+    pub fn of(words: &[u32]) -> Lent {
+        Lent([&BESIDE, words, &BESIDE].concat())
+    }
+
+    pub fn words(&mut self) -> &mut [u32] {
+        let end = self.0.len() - BESIDE.len();
+        &mut self.0[BESIDE.len()..end]
+    }
+
+    /// The words again.
+    pub fn back(mut self) -> Vec<u32> {
+        assert!(self.0.starts_with(&BESIDE) && self.0.ends_with(&BESIDE), "a call wrote beside what it was lent");
+        self.words().to_vec()
+    }
+}
+
+/// Code and number of the library's batch call.
+pub fn library_batch(pool: &mut [u32], bytes: &[u8], answers: &mut [u32]) -> Answer {
+    let r = raw::batch(pool, bytes, answers);
+    ((r >> 32) as u32, r as u32)
+}
+
+/// Everything that can be asked of these words without changing them, by both; the audit's code.
+pub fn same_on(words: &[u32]) -> u32 {
+    let code = raw::audit(words);
+    assert_eq!(code, twin::audit(words), "audit of {words:?}");
+    let (report_code, figures) = twin::report(words);
+    assert_eq!(code, report_code, "report of {words:?}");
+    // "takes an index, 1 first, and returns that number, 0 for a refused pool or any other index"
+    for (index, want) in (1..).zip(figures).chain([(0, 0), (8, 0), (1 << 31, 0), (u32::MAX, 0)]) {
+        assert_eq!(raw::report(words, index), want, "report {index} of {words:?}");
+    }
+    code
+}
+
+/// The batch by both on copies of the words, with room for some answer words; every word afterwards. What was answered.
+pub fn same_batch(words: &[u32], bytes: &[u8], room: usize) -> Answer {
+    let untouched: Vec<u32> = (0..room as u32).map(|i| UNTOUCHED + i).collect();
+    let (mut pool, mut answers) = (Lent::of(words), Lent::of(&untouched));
+    let got = library_batch(pool.words(), bytes, answers.words());
+    let (pool, answers) = (pool.back(), answers.back());
+    let (mut twin_pool, mut twin_answers) = (words.to_vec(), untouched.clone());
+    let want = twin::batch(&mut twin_pool, bytes, &mut twin_answers);
+    assert_eq!(got, want, "batch {bytes:02X?} with {room} answer words on {words:?}");
+    assert_eq!(answers, twin_answers, "answers of batch {bytes:02X?} on {words:?}");
+    assert_eq!(pool, twin_pool, "pool after batch {bytes:02X?} on {words:?}");
+    if got.0 != 0 {
+        assert!(pool == words && answers == untouched, "a refused batch {bytes:02X?} changed words");
+    }
+    got
+}
+
+/// How often each answer was seen.
+#[derive(Default)]
+pub struct Seen {
+    pub commands: u64,
+    /// By operation and code.
+    pub codes: [[u64; 13]; 6],
+    /// Accepted steps by kind.
+    pub kinds: [u64; 9],
+    pub settle_steps: u64,
+}
+
+impl Seen {
+    fn add(&mut self, command: Command, (code, number): Answer) {
+        self.commands += 1;
+        self.codes[command.numbers()[0] as usize][code as usize] += 1;
+        match command {
+            Command::Step(_, kind) if code == 0 => self.kinds[kind as usize] += 1,
+            Command::Settle(_) => self.settle_steps += u64::from(number),
+            _ => {}
+        }
+    }
+}
+
+/// A pool's words, which the library changes, and the set that the twin has for them.
+#[derive(Clone)]
+pub struct Pair {
+    pub words: Vec<u32>,
+    pub twin: Set,
+}
+
+impl Pair {
+    pub fn prepared(slots: usize) -> Pair {
+        let mut words: Vec<u32> = (0..4 + 4 * slots as u32).map(|i| i.wrapping_mul(0x9E37_79B9)).collect();
+        assert_eq!(raw::prepare(&mut words), twin::prepare(&mut words.clone()), "prepare {slots} slots");
+        Pair::of(words, Set::prepared(slots))
+    }
+
+    pub fn holding(twin: Set) -> Pair {
+        Pair::of(twin.words(), twin)
+    }
+
+    fn of(words: Vec<u32>, twin: Set) -> Pair {
+        let pair = Pair { words, twin };
+        pair.audit();
+        pair
+    }
+
+    pub fn slot(&self, slot: usize) -> [u32; 4] {
+        self.words[4 * slot..4 * slot + 4].try_into().unwrap()
+    }
+
+    pub fn report(&self) -> [u64; 7] {
+        std::array::from_fn(|i| raw::report(&self.words, i as u32 + 1))
+    }
+
+    /// The words are the twin's, and pass both audits.
+    fn audit(&self) {
+        assert_eq!(self.words, self.twin.words(), "pool");
+        assert_eq!(raw::audit(&self.words), 0, "audit of {:?}", self.words);
+        assert_eq!(twin::audit(&self.words), 0, "the twin's audit of {:?}", self.words);
+    }
+
+    /// All that can be asked, and that the twin reads back its own set.
+    pub fn look(&self) {
+        assert_eq!(same_on(&self.words), 0);
+        assert_eq!(twin::read(&self.words).as_ref(), Ok(&self.twin), "the set read back");
+    }
+
+    /// One command in a batch of its own, by both; then the audit.
+    pub fn run(&mut self, command: Command) -> Answer {
+        let mut answer = [UNTOUCHED; 3];
+        let before = self.words.clone();
+        let whole = library_batch(&mut self.words, &Command::all(&[command]), &mut answer);
+        assert_eq!(whole, (0, 0), "{command:?} on {before:?}");
+        let want = self.twin.run(command);
+        assert_eq!((answer[0], answer[1]), want, "{command:?} on {before:?}");
+        assert_eq!(answer[2], UNTOUCHED, "{command:?} wrote past its answer");
+        assert_eq!(self.words, self.twin.words(), "pool after {command:?} on {before:?}");
+        if (1..=11).contains(&want.0) {
+            assert_eq!(self.words, before, "{command:?} was refused with {} and changed the pool", want.0);
+        }
+        self.audit();
+        want
+    }
+
+    /// The same, counted.
+    pub fn run_seen(&mut self, command: Command, seen: &mut Seen) -> Answer {
+        let answer = self.run(command);
+        seen.add(command, answer);
+        answer
+    }
+
+    pub fn insert_all(&mut self, keys: &[u32]) -> Vec<Answer> {
+        keys.iter().map(|&key| self.run(Command::Insert(key))).collect()
+    }
+}

@@ -1,0 +1,352 @@
+//! Random commands, one at a time and in batches, by the library and the twin; the audit after every command.
+
+use crate::pair::{library_batch, same_batch, Pair, Seen};
+use crate::pools::{grown, some_keys, Weights, SHAPES, WEIGHTS};
+use crate::rng::Rng;
+use crate::twin::{write_number, Command, Set, MOST_SLOTS};
+use std::collections::HashSet;
+use std::time::Instant;
+
+/// How many times the usual work: `host/test soak N` sets it.
+fn soak() -> u64 {
+    number_from("HOST_SOAK", 1)
+}
+
+/// A smaller share of the usual work, for host/faults: one part in so many.
+fn share() -> u64 {
+    number_from("HOST_SHARE", 1)
+}
+
+fn number_from(variable: &str, otherwise: u64) -> u64 {
+    std::env::var(variable).map_or(otherwise, |n| n.parse().expect("a number"))
+}
+
+/// Runs `once` for seeds from `first` on, and says how much was compared.
+fn compared(test: &str, first: u64, seeds: u64, mut once: impl FnMut(&mut Rng, &mut Seen)) -> Seen {
+    let begun = Instant::now();
+    let mut seen = Seen::default();
+    let seeds = (seeds * soak()).div_ceil(share());
+    for seed in first..first + seeds {
+        once(&mut Rng::seeded(test, seed), &mut seen);
+    }
+    let (commands, steps, seconds) = (seen.commands, seen.settle_steps, begun.elapsed().as_secs_f64());
+    println!("compared {commands} commands ({steps} steps of settle) in {test}, seeds {first} to {}, {seconds:.1} s", first + seeds - 1);
+    seen
+}
+
+/// Mostly keys that are near each other, sometimes far ones.
+fn key(rng: &mut Rng, span: u32) -> u32 {
+    if rng.one_in(16) {
+        rng.pick(&[0, 1, 127, 128, 16_383, 16_384, 1 << 28, i32::MAX as u32, u32::MAX - 1, u32::MAX])
+    } else {
+        rng.within(0, span)
+    }
+}
+
+/// Half of the steps are allowed ones, where there are any; many of the others stand at the root, where 11 is.
+fn step(rng: &mut Rng, set: &Set) -> Command {
+    let allowed = if rng.one_in(2) { set.allowed() } else { vec![] };
+    let (slot, kind) = match rng.below(8) {
+        _ if !allowed.is_empty() => rng.pick(&allowed),
+        0 => (rng.next() as u32, rng.next() as u32),
+        1 => (rng.within(0, set.slots as u32 + 1), rng.within(0, 9)),
+        2 | 3 => (root_slot(set), rng.within(1, 8)),
+        _ => (some_inner_slot(rng, set), rng.within(0, 9)),
+    };
+    Command::Step(slot, kind)
+}
+
+fn root_slot(set: &Set) -> u32 {
+    set.tree.as_ref().map_or(0, |root| root.to.slot)
+}
+
+/// An inner node's slot by a random way down, or 0.
+fn some_inner_slot(rng: &mut Rng, set: &Set) -> u32 {
+    let mut found = 0;
+    let mut at = set.tree.as_ref();
+    while let Some(e) = at.filter(|e| e.to.below.is_some()) {
+        found = e.to.slot;
+        at = if rng.one_in(6) { None } else { e.to.edges().get(rng.below(2)) };
+    }
+    found
+}
+
+/// How likely each operation is: search, insert, delete, step, settle.
+type Mix = [usize; 5];
+const MIXES: [Mix; 7] =
+    [[1, 1, 1, 1, 1], [1, 4, 1, 2, 0], [1, 1, 4, 2, 0], [0, 3, 2, 0, 1], [0, 1, 1, 8, 0], [1, 0, 0, 1, 1], [0, 4, 3, 0, 0]];
+
+fn command(rng: &mut Rng, set: &Set, mix: &Mix, span: u32) -> Command {
+    let mut ticket = rng.below(mix.iter().sum());
+    let operation = mix.iter().position(|&share| {
+        let mine = ticket < share;
+        ticket = ticket.wrapping_sub(share);
+        mine
+    });
+    match operation {
+        Some(0) => Command::Search(key(rng, span)),
+        Some(1) => Command::Insert(key(rng, span)),
+        Some(2) => Command::Delete(key(rng, span)),
+        Some(3) => step(rng, set),
+        _ => Command::Settle(rng.pick(&[0, 1, 2, 3, 7, 100, u32::MAX])),
+    }
+}
+
+/// Commands one at a time, the mix changing on the way.
+fn run_singly(rng: &mut Rng, pair: &mut Pair, count: usize, span: u32, seen: &mut Seen) {
+    let mut mix = &MIXES[0];
+    for i in 0..count {
+        if i % 100 == 0 {
+            mix = &MIXES[rng.below(MIXES.len())];
+            pair.look();
+        }
+        let next = command(rng, &pair.twin, mix, span);
+        pair.run_seen(next, seen);
+    }
+    pair.look();
+}
+
+const SMALL: [usize; 12] = [1, 2, 3, 4, 7, 9, 16, 31, 31, 63, 63, 127];
+
+#[test]
+fn small_pools_one_command_at_a_time() {
+    let seen = compared("small pools", 1, 100, |rng, seen| {
+        for slots in SMALL {
+            run_singly(rng, &mut Pair::prepared(slots), 1000, slots as u32, seen);
+        }
+    });
+    assert!(share() > 1 || seen.commands >= 1_000_000, "a million commands");
+    let Seen { codes, kinds, .. } = seen;
+    println!("compared codes by operation (search, insert, delete, step, settle): {:?}", &codes[1..]);
+    println!("compared steps accepted by kind: {:?}", &kinds[1..]);
+    for (operation, wanted) in [(1, &[0, 6][..]), (2, &[0, 5, 7]), (3, &[0, 6]), (4, &[0, 8, 9, 10]), (5, &[0, 12])] {
+        for &code in wanted {
+            assert!(share() > 1 || codes[operation][code] > 1000, "operation {operation} was answered {code} too rarely");
+        }
+    }
+    assert!(share() > 1 || kinds[1..].iter().all(|&k| k > 100), "each kind is accepted");
+}
+
+/// Every pool that commands lead to from an empty one of few slots and keys, and on each of them every command.
+fn every_pool(slots: usize, keys: &[u32]) {
+    let mut commands: Vec<Command> = (0..=slots as u32 + 1).flat_map(|s| (0..=9).map(move |k| Command::Step(s, k))).collect();
+    commands.extend([0, 1, u32::MAX].map(Command::Settle));
+    commands.extend(keys.iter().flat_map(|&key| [Command::Search(key), Command::Insert(key), Command::Delete(key)]));
+    let mut reached = HashSet::new();
+    let mut ahead = vec![Pair::prepared(slots)];
+    let mut seen = Seen::default();
+    while let Some(pair) = ahead.pop() {
+        if !reached.insert(pair.words.clone()) {
+            continue;
+        }
+        pair.look();
+        for &command in &commands {
+            let mut next = pair.clone();
+            next.run_seen(command, &mut seen);
+            if next.words != pair.words {
+                ahead.push(next);
+            }
+        }
+    }
+    let (all, pools, keys) = (seen.commands, reached.len(), keys.len());
+    println!("compared {all} commands: each of {} on each of the {pools} pools of {slots} slots and {keys} keys", commands.len());
+}
+
+#[test]
+fn every_small_pool() {
+    for slots in 1..=6 {
+        every_pool(slots, &[0, 7, u32::MAX]);
+    }
+    if share() == 1 {
+        every_pool(7, &[0, 1, 7, u32::MAX]);
+    }
+}
+
+/// Sound pools of all shapes and weights, L up to 255, full ones among them.
+#[test]
+fn grown_pools() {
+    let seen = compared("grown pools", 1000, 40, |rng, seen| {
+        for shape in SHAPES {
+            for weights in WEIGHTS {
+                let slots: usize = rng.pick(&[3, 9, 21, 41, 80]);
+                let most = slots.div_ceil(2);
+                let keys = if rng.one_in(3) { most } else { 1 + rng.below(most) };
+                let keys = some_keys(rng, keys, 4 * slots as u32);
+                let level = if keys.len() == 1 { 0 } else { rng.pick(&[1, 2, 3, 254, 255, 255]) };
+                let mut pair = Pair::holding(grown(rng, slots, &keys, level, shape, weights));
+                pair.look();
+                pair.run_seen(Command::Step(root_slot(&pair.twin), 1), seen);
+                run_singly(rng, &mut pair, 100, 4 * slots as u32, seen);
+            }
+        }
+    });
+    println!("compared steps refused with 11: {}; accepted by kind: {:?}", seen.codes[4][11], &seen.kinds[1..]);
+    assert!(share() > 1 || seen.codes[4][11] > 20, "kind 1 at the root with L = 255");
+    assert!(share() > 1 || seen.kinds[1..].iter().all(|&k| k > 100), "each kind is accepted");
+}
+
+/// Every allowed step of every grown pool, one at a time until none is left, never more than the first report's bound.
+#[test]
+fn steps_end_within_the_bound() {
+    compared("steps to the end", 2000, 20, |rng, seen| {
+        for shape in SHAPES {
+            for weights in WEIGHTS {
+                let keys = some_keys(rng, 12, 100);
+                let level = rng.pick(&[1, 2, 6]);
+                let mut pair = Pair::holding(grown(rng, 25, &keys, level, shape, weights));
+                let bound = pair.report()[6];
+                let mut taken = 0;
+                loop {
+                    let allowed = pair.twin.allowed();
+                    if allowed.is_empty() {
+                        break;
+                    }
+                    let (slot, kind) = rng.pick(&allowed);
+                    pair.run_seen(Command::Step(slot, kind), seen);
+                    taken += 1;
+                    assert!(taken <= bound, "{taken} steps with a bound of {bound}");
+                }
+                assert_eq!(pair.report()[2..4], [0, 0], "red-black at the end");
+            }
+        }
+    });
+}
+
+#[test]
+fn largest_pools() {
+    compared("pools of 1,023 slots", 3000, 4, |rng, seen| {
+        let mut pair = Pair::prepared(MOST_SLOTS);
+        let mut keys = some_keys(rng, 520, 5000);
+        rng.shuffle(&mut keys);
+        for &key in &keys {
+            pair.run_seen(Command::Insert(key), seen);
+        }
+        run_singly(rng, &mut pair, 1500, 5000, seen);
+        pair.run_seen(Command::Settle(u32::MAX), seen);
+        rng.shuffle(&mut keys);
+        for &key in &keys {
+            pair.run_seen(Command::Delete(key), seen);
+        }
+    });
+}
+
+/// Heavy and red pools of 1,023 slots, settled piece by piece and to the end.
+#[test]
+fn largest_grown_pools() {
+    let mut shapes = SHAPES.into_iter().cycle();
+    compared("grown pools of 1,023 slots", 4000, SHAPES.len() as u64, |rng, seen| {
+        let shape = shapes.next().unwrap();
+        for weights in WEIGHTS {
+            let keys = some_keys(rng, 512, 100_000);
+            let level = if weights == Weights::Red { 1 } else { 255 };
+            let mut pair = Pair::holding(grown(rng, MOST_SLOTS, &keys, level, shape, weights));
+            pair.look();
+            run_singly(rng, &mut pair, 60, 100_000, seen);
+            pair.run_seen(Command::Settle(200), seen);
+        }
+    });
+}
+
+fn some_commands(rng: &mut Rng, set: &Set, count: usize, span: u32) -> Vec<Command> {
+    let mix = rng.pick(&MIXES);
+    (0..count).map(|_| command(rng, set, &mix, span)).collect()
+}
+
+/// Batches of many commands: the whole at once is the same as one at a time.
+#[test]
+fn batches_are_their_commands_in_order() {
+    compared("whole batches", 5000, 60, |rng, seen| {
+        let slots = rng.pick(&[1, 2, 3, 9, 33, 127]);
+        let mut pair = Pair::prepared(slots);
+        for _ in 0..20 {
+            let count = rng.pick(&[0, 1, 2, 5, 16, 100, 255, 256]);
+            let commands = some_commands(rng, &pair.twin, count, 2 * slots as u32);
+            let mut whole = pair.words.clone();
+            let mut answers = vec![0; 2 * count];
+            assert_eq!(library_batch(&mut whole, &Command::all(&commands), &mut answers), (0, 0));
+            for (command, answer) in commands.iter().zip(answers.chunks(2)) {
+                assert_eq!(pair.run_seen(*command, seen), (answer[0], answer[1]), "{command:?} in a batch");
+            }
+            assert_eq!(whole, pair.words, "the pool after a batch");
+        }
+    });
+}
+
+/// The batch's bytes with something wrong in them, most of the time.
+fn spoiled(rng: &mut Rng, commands: &[Command]) -> Vec<u8> {
+    let mut bytes = vec![];
+    let unlucky = rng.below(commands.len() + 1);
+    let way = rng.below(9);
+    for (i, command) in commands.iter().enumerate() {
+        let mut numbers = command.numbers();
+        if i == unlucky && way == 0 {
+            numbers[0] = rng.pick(&[0, 6, 7, 8, 127, 128, 133, 256 + 1, u32::MAX]);
+        }
+        let wrong = rng.below(numbers.len());
+        for (place, &number) in numbers.iter().enumerate() {
+            let padding = if i == unlucky && way == 1 && place == wrong { 1 + rng.below(4) } else { 0 };
+            write_number(number, padding, &mut bytes);
+        }
+        if i == unlucky && way == 2 {
+            bytes.extend([0xFF, 0xFF, 0xFF, 0xFF, rng.within(0x10, 0x7F) as u8]);
+        }
+    }
+    match way {
+        3 => bytes.truncate(rng.below(bytes.len() + 1)),
+        4 if !bytes.is_empty() => {
+            let at = rng.below(bytes.len());
+            bytes[at] = rng.next() as u8;
+        }
+        5 if !bytes.is_empty() => {
+            let at = rng.below(bytes.len());
+            bytes[at] ^= 1 << rng.below(8);
+        }
+        6 if !bytes.is_empty() => {
+            bytes.remove(rng.below(bytes.len()));
+        }
+        7 => bytes.insert(rng.below(bytes.len() + 1), rng.next() as u8),
+        _ => {}
+    }
+    bytes
+}
+
+#[test]
+fn spoiled_batches() {
+    let mut refusals = [0u32; 5];
+    compared("spoiled batches", 6000, 30, |rng, seen| {
+        for _ in 0..100 {
+            let keys = some_keys(rng, 10, 40);
+            let (level, shape, weights) = (rng.pick(&[1, 2, 255]), rng.pick(&SHAPES), rng.pick(&WEIGHTS));
+            let set = grown(rng, 31, &keys, level, shape, weights);
+            let mut words = set.words();
+            if rng.one_in(4) {
+                let at = rng.below(words.len());
+                words[at] = words[at].wrapping_add(rng.pick(&[1, 2, u32::MAX]));
+            }
+            let count = rng.pick(&[0, 1, 2, 3, 10, 40, 255, 256, 257]);
+            let commands = some_commands(rng, &set, count, 40);
+            let bytes = spoiled(rng, &commands);
+            let room = (2 * count + rng.below(5)).saturating_sub(rng.below(4));
+            let (code, _) = same_batch(&words, &bytes, room);
+            refusals[code as usize] += 1;
+            seen.commands += if code == 0 { count as u64 } else { 0 };
+        }
+    });
+    println!("compared batches by code: 0, 1, 2, 3, 4: {refusals:?}");
+    assert!(share() > 1 || [0, 2, 3, 4].iter().all(|&code| refusals[code] > 50));
+}
+
+/// Bytes that were never a batch.
+#[test]
+fn noise_as_a_batch() {
+    compared("noise", 7000, 20, |rng, seen| {
+        let words = Pair::prepared(9).words;
+        for _ in 0..500 {
+            let len = rng.below(24);
+            let bytes: Vec<u8> = (0..len).map(|_| if rng.one_in(3) { rng.next() as u8 } else { rng.within(0, 6) as u8 }).collect();
+            let room = rng.below(30);
+            same_batch(&words, &bytes, room);
+            seen.commands += 1;
+        }
+    });
+}

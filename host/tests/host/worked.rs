@@ -1,0 +1,328 @@
+//! The cases that document 01 works by hand, those of DESIGN.md, and further ones for kinds that those leave out.
+
+use crate::pair::{library_batch, same_batch, Lent, Pair};
+use crate::twin::{self, edge, inner, leaf, Command, Edge, Set};
+use chromatic::raw;
+use Command::{Delete, Insert, Search, Settle, Step};
+
+const NINE: usize = 9;
+
+/// P1's four inserts into so many slots.
+fn after_p1(slots: usize) -> Pair {
+    let mut pair = Pair::prepared(slots);
+    assert_eq!(pair.insert_all(&[10, 20, 30, 40]), [(0, 1), (0, 3), (0, 5), (0, 7)]);
+    pair
+}
+
+fn after_p2() -> Pair {
+    let mut pair = after_p1(NINE);
+    assert_eq!(pair.run(Step(1, 3)), (0, 3));
+    pair
+}
+
+fn after_p3() -> Pair {
+    let mut pair = after_p2();
+    assert_eq!(pair.run(Insert(50)), (0, 9));
+    assert_eq!(pair.report(), [9, 1, 0, 1, 0, 4, 22]);
+    assert_eq!(pair.run(Step(1, 1)), (0, 1));
+    pair
+}
+
+fn after_p4() -> Pair {
+    let mut pair = after_p3();
+    assert_eq!(pair.run(Delete(10)), (0, 4));
+    pair
+}
+
+#[test]
+fn p1_four_inserts() {
+    let pair = after_p1(NINE);
+    assert_eq!(pair.slot(3)[3], 0);
+    assert_eq!(pair.slot(5)[3], 0);
+    assert_eq!(pair.report(), [7, 1, 0, 1, 0, 2, 16]);
+    pair.look();
+}
+
+#[test]
+fn p2_kind_3() {
+    let pair = after_p2();
+    assert_eq!(pair.slot(1), [20, 3, 5, 1]);
+    assert_eq!(pair.slot(3), [10, 2, 4, 0]);
+    assert!(pair.twin.allowed().is_empty());
+    for slot in 0..=10 {
+        for kind in 0..=9 {
+            assert_ne!(after_p2().run(Step(slot, kind)).0, 0, "slot {slot} kind {kind}");
+        }
+    }
+}
+
+#[test]
+fn p3_kind_1_at_the_root() {
+    let pair = after_p3();
+    assert_eq!((pair.slot(3)[3], pair.slot(5)[3], pair.slot(1)[3]), (1, 1, 1));
+    assert_eq!(pair.report()[1], 2);
+}
+
+#[test]
+fn p4_delete_adds_weights() {
+    let pair = after_p4();
+    assert_eq!(pair.slot(3), [20, 0, 0, 2]);
+    assert_eq!(pair.words[1], 4);
+    assert_eq!(pair.slot(4), [0, 2, 0, u32::MAX]);
+    assert_eq!(pair.slot(2), [0, 0, 0, u32::MAX]);
+    assert_eq!(pair.report(), [7, 2, 1, 0, 6, 0, 132]);
+    pair.look();
+}
+
+#[test]
+fn p5_settle() {
+    let mut pair = after_p4();
+    assert_eq!(pair.run(Settle(1)), (12, 1));
+    assert_eq!(pair.run(Settle(9)), (0, 1));
+    assert_eq!(pair.slot(1), [30, 5, 7, 1]);
+    assert_eq!(pair.slot(5), [20, 3, 6, 0]);
+    let mut same = after_p4();
+    assert_eq!(same.run(Step(1, 6)), (0, 6));
+    assert_eq!(same.run(Step(1, 3)), (0, 3));
+    assert_eq!(same.words, pair.words);
+}
+
+#[test]
+fn p6_no_room_is_not_key_present() {
+    let mut pair = after_p1(7);
+    assert_eq!(pair.run(Insert(50)), (7, 0));
+    assert_eq!(pair.run(Insert(40)), (5, 0));
+}
+
+#[test]
+fn p7_empty_pool() {
+    let mut pair = Pair::prepared(NINE);
+    assert_eq!(pair.run(Search(0)), (6, 0));
+    assert_eq!(pair.report(), [0; 7]);
+    assert_eq!(pair.run(Settle(0)), (0, 0));
+}
+
+/// "nine nodes, root with red c and d, c with red e", every leaf of one weight.
+fn p8(weight: u32) -> Pair {
+    let heavy = |slot, key| edge(weight, leaf(slot, key));
+    let e = edge(0, inner(4, 1, heavy(5, 1), heavy(6, 2)));
+    let c = edge(0, inner(2, 2, e, heavy(7, 3)));
+    let d = edge(0, inner(3, 4, heavy(8, 4), heavy(9, 5)));
+    Pair::holding(Set { slots: NINE, tree: Some(edge(1, inner(1, 3, c, d))), free: vec![] })
+}
+
+#[test]
+fn p8_level_255() {
+    assert_eq!(p8(255).run(Step(1, 1)), (11, 0));
+    assert_eq!(p8(255).run(Step(4, 6)), (0, 6));
+    assert_eq!(p8(254).run(Step(1, 1)), (0, 1));
+    p8(255).look();
+    // Settle passes by the step that 11 refuses, which stands at the lowest slot.
+    assert_eq!(p8(255).run(Settle(1)), (12, 1));
+    let mut steps = p8(255);
+    let (code, _) = steps.run(Settle(u32::MAX));
+    assert_eq!((code, steps.report()[2..4].to_vec()), (0, vec![0, 0]));
+}
+
+#[test]
+fn p9_numbers() {
+    let pool = Pair::prepared(NINE).words;
+    let search = |number: &[u8]| same_batch(&pool, &[&[1], number].concat(), 2);
+    for good in [&[0x80, 0x01][..], &[0xFF, 0xFF, 0xFF, 0xFF, 0x0F], &[0], &[0x7F]] {
+        assert_eq!(search(good), (0, 0));
+    }
+    for bad in [&[0x80, 0x00][..], &[0xFF, 0xFF, 0xFF, 0xFF, 0x10], &[0xFF, 0xFF, 0xFF, 0xFF, 0x8F, 0x00], &[0x80], &[]] {
+        assert_eq!(search(bad), (3, 0));
+    }
+    let mut keys = Pair::prepared(NINE);
+    assert_eq!(library_batch(&mut keys.words, &[2, 0x80, 0x01, 2, 0xFF, 0xFF, 0xFF, 0xFF, 0x0F], &mut [0; 4]), (0, 0));
+    assert_eq!((keys.slot(2)[0], keys.slot(3)[0]), (128, u32::MAX));
+}
+
+#[test]
+fn steps_refused() {
+    let mut pair = after_p1(NINE);
+    for (slot, kind, code) in [(10, 1, 8), (1, 9, 9), (1, 2, 10), (0, 9, 8), (2, 1, 8), (9, 6, 8), (1, 0, 9), (u32::MAX, 3, 8)] {
+        assert_eq!(pair.run(Step(slot, kind)), (code, 0), "slot {slot} kind {kind}");
+    }
+}
+
+#[test]
+fn three_lines_of_the_program() {
+    let mut pair = Pair::prepared(127);
+    let mut answers = [9; 8];
+    assert_eq!(library_batch(&mut pair.words, &[0x02, 0x0A, 0x02, 0x14, 0x01, 0x0A], &mut answers), (0, 0));
+    assert_eq!(answers, [0, 1, 0, 3, 0, 2, 9, 9]);
+}
+
+/// The three further cases of DESIGN.md.
+#[test]
+fn kinds_2_and_4_and_no_rotation_under_a_red_v() {
+    let mut pair = Pair::prepared(11);
+    pair.insert_all(&[40, 30, 20, 10]);
+    assert_eq!(pair.run(Step(1, 2)), (0, 2));
+    assert_eq!((pair.slot(1), pair.slot(2)), ([20, 4, 2, 1], [30, 5, 3, 0]));
+
+    let mut pair = Pair::prepared(11);
+    pair.insert_all(&[30, 40, 10, 20]);
+    assert_eq!(pair.run(Step(1, 4)), (0, 4));
+    assert_eq!((pair.slot(1), pair.slot(2), pair.slot(5)), ([20, 2, 5, 1], [10, 4, 6, 0], [30, 7, 3, 0]));
+
+    let mut pair = after_p1(11);
+    pair.run(Insert(50));
+    assert_eq!(pair.run(Step(3, 3)), (10, 0));
+}
+
+#[test]
+fn kind_5_mirrors_kind_4() {
+    let mut pair = Pair::prepared(11);
+    pair.insert_all(&[20, 10, 40, 15]);
+    assert_eq!(pair.run(Step(1, 5)), (0, 5));
+    assert_eq!((pair.slot(1), pair.slot(3), pair.slot(4)), ([15, 4, 3, 1], [20, 7, 5, 0], [10, 2, 6, 0]));
+}
+
+/// A red child u beside an overweighted t, in a tree of five leaves at level 2: kind 7 at slot 1, its mirror 8.
+fn heavy_beside_red(mirrored: bool, under: Option<u32>) -> Pair {
+    let one = |slot, key| edge(1, leaf(slot, key));
+    let black = |slot, router, l: Edge, r: Edge| edge(1, inner(slot, router, l, r));
+    let v = if mirrored {
+        let u = edge(0, inner(3, 20, black(4, 10, one(5, 10), one(6, 20)), black(7, 30, one(8, 30), one(9, 40))));
+        inner(1, 40, u, edge(2, leaf(2, 50)))
+    } else {
+        let u = edge(0, inner(3, 30, black(4, 20, one(5, 20), one(6, 30)), black(7, 40, one(8, 40), one(9, 50))));
+        inner(1, 10, edge(2, leaf(2, 10)), u)
+    };
+    let tree = match under {
+        None => edge(1, v),
+        Some(p) => edge(1, inner(10, 100, edge(p, v), edge(2 + p, leaf(11, 101)))),
+    };
+    Pair::holding(Set { slots: 11, free: if under.is_none() { vec![11, 10] } else { vec![] }, tree: Some(tree) })
+}
+
+#[test]
+fn kinds_7_and_8() {
+    let mut pair = heavy_beside_red(false, None);
+    assert_eq!(pair.run(Step(1, 7)), (0, 7));
+    assert_eq!((pair.slot(1), pair.slot(3)), ([30, 3, 7, 1], [10, 2, 4, 1]));
+    assert_eq!((pair.slot(2)[3], pair.slot(4)[3], pair.slot(7)[3]), (1, 0, 1));
+
+    let mut pair = heavy_beside_red(true, None);
+    assert_eq!(pair.run(Step(1, 8)), (0, 8));
+    assert_eq!((pair.slot(1), pair.slot(3)), ([20, 4, 3, 1], [40, 7, 2, 1]));
+    assert_eq!((pair.slot(2)[3], pair.slot(7)[3], pair.slot(4)[3]), (1, 0, 1));
+}
+
+/// Kinds 6 to 8 do not ask that v is not red.
+#[test]
+fn kinds_7_and_8_at_a_red_v() {
+    for (mirrored, kind) in [(false, 7), (true, 8)] {
+        for weight in [0, 1, 2, 9] {
+            assert_eq!(heavy_beside_red(mirrored, Some(weight)).run(Step(1, kind)), (0, kind), "v of weight {weight}");
+        }
+    }
+}
+
+/// "Rotating under a red v": each rotation's own condition holds but for "v not red".
+#[test]
+fn no_rotation_under_a_red_v() {
+    for (kind, u_on_left, t_on_left) in [(2, true, true), (3, false, false), (4, true, false), (5, false, true)] {
+        assert_eq!(rotation_case(u_on_left, t_on_left, 0).run(Step(2, kind)), (10, 0), "kind {kind} at a red v");
+        assert_eq!(rotation_case(u_on_left, t_on_left, 1).run(Step(2, kind)), (0, kind), "kind {kind} at a black v");
+    }
+}
+
+/// Root 1 over v in slot 2 (weight p), v over red u in slot 3, u over red t in slot 4.
+fn rotation_case(u_on_left: bool, t_on_left: bool, p: u32) -> Pair {
+    let one = |slot| edge(1, leaf(slot, 0));
+    let beside = |on_left, slot, child, other| if on_left { inner(slot, 0, child, other) } else { inner(slot, 0, other, child) };
+    let t = edge(0, inner(4, 0, one(5), one(6)));
+    let u = edge(0, beside(t_on_left, 3, t, one(7)));
+    let v = edge(p, beside(u_on_left, 2, u, one(8)));
+    let mut tree = edge(1, inner(1, 0, v, edge(1 + p, leaf(9, 0))));
+    number_keys(&mut tree, &mut 0);
+    Pair::holding(Set { slots: NINE, tree: Some(tree), free: vec![] })
+}
+
+/// Leaf keys 1, 2, .. from the left, each router the key on its left.
+fn number_keys(e: &mut Edge, last: &mut u32) {
+    match e.to.below.as_mut() {
+        None => {
+            *last += 1;
+            e.to.key = *last;
+        }
+        Some(both) => {
+            number_keys(&mut both[0], last);
+            e.to.key = *last;
+            number_keys(&mut both[1], last);
+        }
+    }
+}
+
+#[test]
+fn kind_6_with_both_children_overweighted_and_at_a_red_v() {
+    let mut pair = p8(9);
+    assert_eq!(pair.run(Step(4, 6)), (0, 6));
+    assert_eq!((pair.slot(4)[3], pair.slot(5)[3], pair.slot(6)[3]), (1, 8, 8));
+}
+
+/// "Where the budget is just enough": settle looks for a step first and at the budget second.
+#[test]
+fn a_budget_that_is_just_enough() {
+    assert_eq!(after_p4().run(Settle(2)), (0, 2));
+    assert_eq!(after_p4().run(Settle(0)), (12, 0));
+    assert_eq!(after_p2().run(Settle(0)), (0, 0));
+}
+
+#[test]
+fn lengths() {
+    for len in (0..=40).chain(4088..=4112).chain([8196, 65540]) {
+        let mut words = vec![7; len];
+        let good = len % 4 == 0 && (8..=4096).contains(&len);
+        assert_eq!(raw::audit(&words), if good { 2 } else { 1 }, "audit of {len} words");
+        assert_eq!(raw::report(&words, 1), 0);
+        let refusal = library_batch(&mut words, &[9], &mut [0; 2]);
+        assert_eq!(refusal, if good { (3, 0) } else { (1, 0) }, "batch on {len} words");
+        let mut theirs = words.clone();
+        assert_eq!(twin::prepare(&mut theirs), u32::from(!good), "the twin's prepare of {len} words");
+        let mut lent = Lent::of(&words);
+        assert_eq!(raw::prepare(lent.words()), u32::from(!good), "prepare {len} words");
+        let words = lent.back();
+        assert_eq!(words, theirs, "{len} words after prepare");
+        assert!(good || words.iter().all(|&w| w == 7), "a refused prepare of {len} words wrote");
+    }
+}
+
+/// "Codes 1 to 4 refuse the call, in the order 1, 3, 4, 2".
+#[test]
+fn order_of_refusals() {
+    let good = after_p1(NINE).words;
+    let mut broken = good.clone();
+    broken[3] = 1;
+    let short = &broken[..39];
+    let bad_command = [2, 77, 1, 10, 6];
+    for (words, bytes, room, want) in [
+        (short, &bad_command[..], 0, (1, 0)),
+        (&broken, &bad_command, 0, (3, 4)),
+        (&broken, &bad_command[..4], 3, (4, 0)),
+        (&broken, &bad_command[..4], 4, (2, 0)),
+        (&broken, &[], 0, (2, 0)),
+        (short, &[], 0, (1, 0)),
+        (&good, &bad_command[..4], 3, (4, 0)),
+        (&good, &bad_command[..4], 4, (0, 0)),
+        (&good, &[], 0, (0, 0)),
+    ] {
+        assert_eq!(same_batch(words, bytes, room), want);
+    }
+}
+
+#[test]
+fn two_hundred_and_fifty_seven_commands() {
+    let words = after_p1(NINE).words;
+    let many = |n: usize| [1, 10].repeat(n);
+    assert_eq!(same_batch(&words, &many(256), 512), (0, 0));
+    assert_eq!(same_batch(&words, &many(256), 511), (4, 0));
+    assert_eq!(same_batch(&words, &many(257), 600), (3, 512));
+    assert_eq!(same_batch(&words, &[many(256), vec![0x80]].concat(), 600), (3, 512));
+    let longest = [4, 0xFF, 0xFF, 0xFF, 0xFF, 0x0F, 0xFF, 0xFF, 0xFF, 0xFF, 0x0F].repeat(256);
+    assert_eq!((longest.len(), same_batch(&words, &longest, 512)), (2816, (0, 0)));
+}

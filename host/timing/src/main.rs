@@ -1,0 +1,213 @@
+//! Nanoseconds of the library, of its cousin, and of what a user would pick instead: same machine, same input, all built
+//! for release. In brackets, how many times a contestant's time the library takes.
+
+mod sets;
+
+use chromatic::Command;
+use sets::{all, kind, Set, Work};
+use std::hint::black_box;
+use std::time::{Duration, Instant};
+
+const SLOTS: usize = 1023;
+const LEAST_ROUNDS: usize = 50;
+/// How long one contestant is timed at a stretch, and how many stretches it gets, the others in between.
+const SPELL: Duration = Duration::from_millis(30);
+const SPELLS: usize = 5;
+
+/// Xorshift.
+struct Rng(u64);
+
+impl Rng {
+    fn below(&mut self, end: usize) -> usize {
+        self.0 ^= self.0 << 13;
+        self.0 ^= self.0 >> 7;
+        self.0 ^= self.0 << 17;
+        (self.0 >> 16) as usize % end
+    }
+
+    fn shuffled(&mut self, keys: &[u32]) -> Vec<u32> {
+        let mut keys = keys.to_vec();
+        for i in (1..keys.len()).rev() {
+            keys.swap(i, self.below(i + 1));
+        }
+        keys
+    }
+}
+
+/// The nanoseconds of one run; the clock's own are in there, some 20.
+fn clocked(set: &mut dyn Set, timed: impl Fn(&mut dyn Set) -> u64) -> f64 {
+    let begun = Instant::now();
+    black_box(timed(set));
+    begun.elapsed().as_nanos() as f64
+}
+
+/// Adds to `samples` for one spell what `sample` measures.
+fn spell(samples: &mut Vec<f64>, mut sample: impl FnMut() -> f64) {
+    let started = Instant::now();
+    for round in 0.. {
+        if round >= LEAST_ROUNDS && started.elapsed() > SPELL {
+            break;
+        }
+        samples.push(sample());
+    }
+}
+
+/// The lower quartile: most samples that lie above it met something else that the machine had to do.
+fn typical(samples: &mut [f64]) -> f64 {
+    samples.sort_by(f64::total_cmp);
+    samples[samples.len() / 4]
+}
+
+/// One line: each contestant's time and its ratio.
+fn line(what: &str, times: &[(&str, f64)]) {
+    let library = times[0].1;
+    let ratio = |ns: f64| if ns > 0.0 { format!(" ({:.2})", library / ns) } else { String::new() };
+    let cell = |(i, (name, ns)): (usize, &(&str, f64))| format!("{name} {ns:.1}{}", if i == 0 { String::new() } else { ratio(*ns) });
+    let cells: Vec<String> = times.iter().enumerate().map(cell).collect();
+    println!("{what:38} {}", cells.join("  "));
+}
+
+/// What is timed, after something that is not.
+struct Race<'a> {
+    what: &'a str,
+    before: &'a Work,
+    work: &'a Work,
+    /// What the time is divided by.
+    units: usize,
+    /// Takes a pool's audits off, which each call begins with.
+    net: bool,
+}
+
+/// Times a unit of the race's work. All sets hold the same keys before and after: `home` inserts what may be gone.
+fn race(sets: &mut [Box<dyn Set>], home: &Work, race: Race) {
+    let Race { what, before, work, units, net } = race;
+    let empty = Work::empty_call();
+    let again = |set: &mut dyn Set| {
+        set.restore();
+        set.run(before);
+    };
+    // Paired: an audit's time depends on what the processor has learned of the pool, so each is taken off where it is
+    // spent, a moment after one like it was timed.
+    let sample = |set: &mut dyn Set| {
+        again(set);
+        let calls = if net && set.pooled().is_some() { work.calls() as f64 * clocked(set, |set| set.run(&empty)) } else { 0.0 };
+        clocked(set, |set| set.run(work)) - calls
+    };
+    sets.iter_mut().for_each(|set| set.keep());
+    let mut samples = vec![vec![]; sets.len()];
+    for _ in 0..SPELLS {
+        sets.iter_mut().zip(&mut samples).for_each(|(set, samples)| spell(samples, || sample(set.as_mut())));
+    }
+    let mut good = vec![];
+    for set in sets.iter_mut() {
+        again(set.as_mut());
+        good.push(set.run(work));
+        set.restore();
+        set.run(home);
+    }
+    assert!(good.iter().all(|&g| g == good[0]), "{what}: the contestants do not agree: {good:?}");
+    let times: Vec<_> = sets.iter().zip(&mut samples).map(|(set, samples)| (set.name(), typical(samples) / units as f64)).collect();
+    line(what, &times);
+}
+
+/// What only pools have, in nanoseconds a call.
+fn race_pools(what: &str, sets: &mut [Box<dyn Set>], call: fn(&dyn Set) -> u64) {
+    let mut pools: Vec<_> = sets.iter_mut().filter(|set| set.pooled().is_some()).map(|set| (set, vec![])).collect();
+    for _ in 0..SPELLS {
+        pools.iter_mut().for_each(|(set, samples)| spell(samples, || clocked(set.as_mut(), |set| call(set))));
+    }
+    let times: Vec<_> = pools.iter_mut().map(|(set, samples)| (set.name(), typical(samples))).collect();
+    line(what, &times);
+}
+
+fn each(keys: &[u32], command: fn(u32) -> Command) -> Vec<Command> {
+    keys.iter().map(|&key| command(key)).collect()
+}
+
+fn search(key: u32) -> Command {
+    Command::Search { key }
+}
+
+fn insert(key: u32) -> Command {
+    Command::Insert { key }
+}
+
+fn delete(key: u32) -> Command {
+    Command::Delete { key }
+}
+
+/// 256 commands that leave the same keys: in turns a delete, a search, and the insert of what was deleted.
+fn turns(rng: &mut Rng, keys: &[u32]) -> Vec<Command> {
+    let mut commands = vec![];
+    while commands.len() < 254 {
+        let key = keys[rng.below(keys.len())];
+        commands.extend([delete(key), search(keys[rng.below(keys.len())]), insert(key)]);
+    }
+    commands.push(search(keys[0]));
+    commands
+}
+
+/// Up to 256 steps, one after the other, from a pool's first allowed one.
+fn steps_from(words: &[u32]) -> Vec<Command> {
+    let mut words = words.to_vec();
+    let mut steps = vec![];
+    while steps.len() < 256 {
+        let (slot, number) = cousin::first_allowed(&words);
+        if slot == 0 {
+            break;
+        }
+        let step = Command::Step { slot, kind: kind(number) };
+        steps.push(step);
+        cousin::batch(&mut words, &[5, 1], &mut [0; 2]);
+    }
+    steps
+}
+
+fn table(count: usize) {
+    let mut rng = Rng(88_172_645_463_325_252);
+    let spread: Vec<u32> = (0..count as u32).map(|i| i * 997 + 13).collect();
+    let keys = rng.shuffled(&spread);
+    let mut sets = all(SLOTS);
+    let fill = Work::new(each(&keys, insert), 256);
+    sets.iter_mut().for_each(|set| assert_eq!(set.run(&fill), count as u64, "{}", set.name()));
+    let nothing = Work::new(vec![], 1);
+    println!("{count} keys in {SLOTS} slots, ns each");
+
+    let unsettled = sets[0].pooled().expect("the library is first").words.clone();
+    let steps = Work::new(steps_from(&unsettled), 256);
+    let settle = Work::new(vec![Command::Settle { budget: u32::MAX }], 1);
+    let what = format!("step, in a batch of {} (net)", steps.len());
+    race(&mut sets[..2], &nothing, Race { what: &what, before: &nothing, work: &steps, units: steps.len(), net: true });
+    let what = format!("settle, a step of {} with its scan (net)", steps.len());
+    race(&mut sets[..2], &nothing, Race { what: &what, before: &nothing, work: &settle, units: steps.len(), net: true });
+    sets[..2].iter_mut().for_each(|set| {
+        set.run(&settle);
+    });
+
+    let half = &rng.shuffled(&keys)[..count / 2];
+    let (gone, back) = (Work::new(each(half, delete), 256), Work::new(each(half, insert), 256));
+    let some: Vec<u32> = (0..256).map(|_| keys[rng.below(count)]).collect();
+    let searches = Work::new(each(&some, search), 256);
+    race(
+        &mut sets,
+        &back,
+        Race { what: "search, in a batch of 256 (net)", before: &nothing, work: &searches, units: searches.len(), net: true },
+    );
+    race(&mut sets, &back, Race { what: "insert, half of the keys (net)", before: &gone, work: &back, units: back.len(), net: true });
+    race(&mut sets, &back, Race { what: "delete, half of the keys (net)", before: &back, work: &gone, units: gone.len(), net: true });
+    let commands = turns(&mut rng, &keys);
+    for size in [1, 16, 256] {
+        let work = Work::new(commands.clone(), size);
+        let what = format!("command in batches of {size}, all told");
+        race(&mut sets, &back, Race { what: &what, before: &nothing, work: &work, units: work.len(), net: false });
+    }
+    race_pools("audit, a call", &mut sets, |set| set.pooled().map_or(0, |p| u64::from((p.audit)(black_box(&p.words)))));
+    race_pools("report's seventh number, a call", &mut sets, |set| set.pooled().map_or(0, |p| (p.report)(black_box(&p.words), 7)));
+}
+
+fn main() {
+    println!("in brackets: the library's time divided by that contestant's");
+    println!("net: the audit that begins every call of a pool is taken off; all told: it is counted");
+    table(64);
+    table(512);
+}
