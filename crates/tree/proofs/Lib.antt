@@ -23,3 +23,5 @@ pub mod Depth
 pub mod Settling
 pub mod Settled
 pub mod Demand3
+pub mod Deciding
+pub mod Decides

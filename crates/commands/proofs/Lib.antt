@@ -1,0 +1,5 @@
+pub mod Commands
+pub mod Reading
+pub mod Scanning
+pub mod Running
+pub mod Decides

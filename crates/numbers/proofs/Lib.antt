@@ -1,0 +1,5 @@
+pub mod Groups
+pub mod Ahead
+pub mod Took
+pub mod Shortest
+pub mod Decides
