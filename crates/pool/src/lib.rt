@@ -1,0 +1,244 @@
+// Prepare and audit. Every function here takes any words: none has a `requires`.
+use format::Header;
+use format::Slot;
+use slots::FREE_WEIGHT;
+use slots::free_slot;
+use slots::get_header;
+use slots::get_slot;
+use slots::is_slot;
+use slots::length_good;
+use slots::put_header;
+use slots::put_slot;
+use slots::slots_in;
+use tree::Answer;
+use tree::MOST_LEVEL;
+use tree::MOST_SLOTS;
+use tree::Refusal;
+ghost use mathlib.Core.Path.{_≡_};
+ghost use Rattle.pool.specs.Results.{prepareCode, preparedWords, auditCode, audited, auditedCode};
+ghost use Rattle.pool.specs.Walks.{LeafSays, JoinSays, WalkSays, TopSays, FreeSays, ChainSays};
+
+// 01: "The root's is 1 and counts in nothing."
+pub const ROOT_WEIGHT: u32 = 1;
+// "Keys may be any 32-bit number": each is below this.
+pub const KEY_END: u64 = 4294967296;
+
+// 01: "Prepare makes a pool empty: header 0, 1, 0, 0, all slots free, chained 1, 2, .. C."
+pub fn prepare(pool: &mut [u32]) -> u32
+    ensures code { λ r. ⌜ r ≡ prepareCode (now (pool .entry)) ⌝ }
+    ensures pool { λ _. ⌜ now (pool .exit) ≡ preparedWords (now (pool .entry)) ⌝ }
+{
+    if !length_good(pool) {
+        return Refusal::POOL_LENGTH;
+    }
+    let last = slots_in(pool) as u32;
+    put_header(
+        pool,
+        Header {
+            root: 0,
+            free: 1,
+            nodes: 0,
+            spare: 0,
+        },
+    );
+    let mut s = 1;
+    while s < last {
+        put_slot(pool, s, free_slot(s + 1));
+        s += 1;
+    }
+    put_slot(pool, last, free_slot(0));
+    Answer::DONE
+}
+
+// What a walk over a tree finds: a fault; or how many nodes the tree has, and what the weights from the edge above it down to each
+// leaf add up to.
+enum Walk {
+    Bad,
+    Good(u32, u32),
+}
+
+// The largest such sum: L, and the weight of the root, which counts in nothing and is taken off at the end.
+const MOST_SUM: u32 = MOST_LEVEL + ROOT_WEIGHT;
+
+// A slot whose left is 0, as a leaf with its key from lo to below hi.
+fn walk_leaf(c: Slot, lo: u64, hi: u64) -> Walk
+    ensures { λ r. ⌜ LeafSays c lo hi r ⌝ }
+{
+    if c.right != 0 {
+        return Walk::Bad;
+    }
+    if c.weight < 1 {
+        return Walk::Bad;
+    }
+    if MOST_SUM < c.weight {
+        return Walk::Bad;
+    }
+    if (c.key as u64) < lo {
+        return Walk::Bad;
+    }
+    if hi <= c.key as u64 {
+        return Walk::Bad;
+    }
+    Walk::Good(1, c.weight)
+}
+
+// An edge of weight w to an inner node, whose subtrees have an and bn nodes and the sums al and bl.
+fn join(w: u32, an: u32, al: u32, bn: u32, bl: u32) -> Walk
+    ensures { λ r. ⌜ JoinSays w an al bn bl r ⌝ }
+{
+    if al != bl {
+        return Walk::Bad;
+    }
+    let sum = w as u64 + al as u64;
+    if (MOST_SUM as u64) < sum {
+        return Walk::Bad;
+    }
+    let nodes = 1 + an as u64 + bn as u64;
+    if (MOST_SLOTS as u64) < nodes {
+        return Walk::Bad;
+    }
+    Walk::Good(nodes as u32, sum as u32)
+}
+
+// The tree at slot s, its keys from lo to below hi, at most `left` nodes deep.
+//
+// On any words, with a first allowance of (C + 1) / 2, it is called at most C + (C + 1) / 2 + 1 times:
+// - The first Bad ends the whole walk. So every call has answered Good but those that are open then, one at most for each allowance
+//   from (C + 1) / 2 down to 0.
+// - A call that answers Good has found a leaf, and all its leaves have keys within its bounds. A node's right side is walked once its
+//   left side has answered Good, with bounds that begin above the left side's keys. So of two leaves found, the later has the
+//   greater key.
+// - So no slot has two calls that answer Good. If one were inside the other, the slot's tree would be a part of itself, for the words
+//   at a slot decide the tree there. If one came after the other, both would find the same leaves. And there are C slots.
+// Shared subtrees, slots that point at one another and long ways down change nothing in this. Without the end at the first fault
+// a pool can ask for 2 ^ ((C + 1) / 2) calls.
+fn walk_tree(pool: &[u32], s: u32, lo: u64, hi: u64, left: u32) -> Walk
+    ensures { λ r. ⌜ WalkSays (now (pool .entry)) s lo hi left r ⌝ }
+{
+    if left < 1 {
+        return Walk::Bad;
+    }
+    if !is_slot(pool, s) {
+        return Walk::Bad;
+    }
+    let c = get_slot(pool, s);
+    if c.left == 0 {
+        return walk_leaf(c, lo, hi);
+    }
+    let mid = c.key as u64 + 1;
+    let Walk::Good(an, al) = walk_tree(pool, c.left, lo, mid, left - 1) else {
+        return Walk::Bad;
+    };
+    let Walk::Good(bn, bl) = walk_tree(pool, c.right, mid, hi, left - 1) else {
+        return Walk::Bad;
+    };
+    join(c.weight, an, al, bn, bl)
+}
+
+// The whole tree, none where the root is 0: its nodes, and L.
+fn walk_top(pool: &[u32], root: u32, left: u32) -> Walk
+    ensures { λ r. ⌜ TopSays (now (pool .entry)) root left r ⌝ }
+{
+    if root == 0 {
+        return Walk::Good(0, 0);
+    }
+    let c = get_slot(pool, root);
+    if c.weight != ROOT_WEIGHT {
+        return Walk::Bad;
+    }
+    let Walk::Good(n, l) = walk_tree(pool, root, 0, KEY_END, left) else {
+        return Walk::Bad;
+    };
+    Walk::Good(n, l - ROOT_WEIGHT)
+}
+
+fn is_free(c: Slot) -> bool
+    ensures { λ r. ⌜ FreeSays c r ⌝ }
+{
+    if c.key != 0 {
+        return false;
+    }
+    if c.right != 0 {
+        return false;
+    }
+    if c.weight != FREE_WEIGHT {
+        return false;
+    }
+    true
+}
+
+// Whether the free chain from slot `first` on has n slots and ends there.
+fn walk_chain(pool: &[u32], first: u32, n: u32) -> bool
+    ensures { λ r. ⌜ ChainSays (now (pool .entry)) first n r ⌝ }
+{
+    let mut s = first;
+    let mut left = n;
+    while 0 < left {
+        if !is_slot(pool, s) {
+            return false;
+        }
+        let c = get_slot(pool, s);
+        if !is_free(c) {
+            return false;
+        }
+        s = c.left;
+        left -= 1;
+    }
+    if s != 0 {
+        return false;
+    }
+    true
+}
+
+// What the audit learns: that the length is wrong, that a rule is broken, or the header and L of a pool that keeps the rules.
+pub enum Audited {
+    Length,
+    Broken,
+    Sound(Header, u32),
+}
+
+impl Audited {
+    pub fn code(self) -> u32
+        ensures { λ r. ⌜ r ≡ auditedCode self ⌝ }
+    {
+        match self {
+            Audited::Length => Refusal::POOL_LENGTH,
+            Audited::Broken => Refusal::RULES_BROKEN,
+            Audited::Sound(_, _) => Answer::DONE,
+        }
+    }
+}
+
+// The audit. A tree of n nodes is at most (n + 1) / 2 nodes deep, so that is what the walk may take for C slots.
+pub fn examine(pool: &[u32]) -> Audited
+    ensures { λ r. ⌜ r ≡ audited (now (pool .entry)) ⌝ }
+{
+    if !length_good(pool) {
+        return Audited::Length;
+    }
+    let slots = slots_in(pool) as u32;
+    let h = get_header(pool);
+    if h.spare != 0 {
+        return Audited::Broken;
+    }
+    if slots < h.nodes {
+        return Audited::Broken;
+    }
+    if !walk_chain(pool, h.free, slots - h.nodes) {
+        return Audited::Broken;
+    }
+    let Walk::Good(n, l) = walk_top(pool, h.root, (slots + 1) / 2) else {
+        return Audited::Broken;
+    };
+    if n != h.nodes {
+        return Audited::Broken;
+    }
+    Audited::Sound(h, l)
+}
+
+// 01: "audit and report give 0, 1 or 2".
+pub fn audit(pool: &[u32]) -> u32
+    ensures code { λ r. ⌜ r ≡ auditCode (now (pool .entry)) ⌝ }
+{
+    examine(pool).code()
+}
