@@ -1,0 +1,94 @@
+use mathlib.Core.Logic.{⊎-elim}
+use native.Mathlib.Omega.{arith}
+use Rattle.report.proofs.Walks.{Unders, standing-live, standing-left, standing-right, over-small, under-leaf, under-node, under-inside, edge-part, edge-room, over-node}
+use borrow.Author.Needs.{needs}
+use Prim.Native.Nat.{ℕ, _<_}
+use borrow.Fn.Kinds.{In}
+use borrow.Fn.PlainCycle.{Measures, is, falls, and}
+use Rattle.report.proofs.over.Reads as over
+use Rattle.report.proofs.over.Kinds as over-kinds
+use Rattle.report.proofs.+over.Lts-over as over-lts
+use Rattle.report.proofs.adding.Reads as adding-reads
+use Rattle.report.proofs.excess.Reads as excess-reads
+use Rattle.report.proofs.joined.Reads as joined-reads
+use Rattle.report.proofs.lone_leaf.Reads as lone-leaf-reads
+use Rattle.report.proofs.outside.Reads as outside-reads
+use Rattle.report.proofs.over_edge.Reads as over-edge-reads
+use Rattle.slots.proofs.get_slot.Reads as get-slot-reads
+use Rattle.report.proofs.+over.{statement}
+use Rattle.report.proofs.+over.Tie.{close}
+
+abbrev μ-over : Measures 1 over-kinds.ps ℕ
+μ-over κs a = a .1 .1 .1 .0
+
+abbrev over-at : ℕ → In 1 over-kinds.ps
+over-at t = and 1 over-kinds.ps (is 1 over-kinds.ps μ-over t) over.Pre
+
+abbrev over-below : ℕ → In 1 over-kinds.ps
+over-below t = and 1 over-kinds.ps (falls 1 over-kinds.ps _<_ μ-over t) over.Pre
+
+abbrev over-claims : ℕ → over-lts.Claims
+over-claims t = (get-slot-reads.Asked, get-slot-reads.Learnt, lone-leaf-reads.Asked, lone-leaf-reads.Learnt, over-below t, over.Post, joined-reads.Asked, joined-reads.Learnt, over-edge-reads.Asked, over-edge-reads.Learnt, excess-reads.Asked, excess-reads.Learnt, outside-reads.Asked, outside-reads.Learnt, adding-reads.Asked, adding-reads.Learnt)
+
+over-under : (t : ℕ) (c : over-lts.Joined1 (over-claims t) (over-at t) over.Post) → Unders (c .before .before .before .before .args .pool .now) (c .before .before .before .before .args .s) (c .before .before .before .before .args .n) (c .if1 .u)
+over-under t c = ⊎-elim
+    (λ w. rw (w .2) (under-leaf (c .before .before .get-slot .ensures) (w .0 .taken) (w .1 .ensures)))
+    (λ w. rw (w .4) (under-node (c .before .before .get-slot .ensures) (w .0 .left) (w .1 .ensures) (w .2 .ensures) (w .3 .ensures)))
+    (c .if1 .came)
+
+over-get-slot-requires : (t : ℕ) → over-lts.Need-get-slot-requires (over-claims t) (over-at t) over.Post
+over-get-slot-requires t c κs = search needs
+
+over-lone-leaf-requires : (t : ℕ) → over-lts.Need-lone-leaf-requires (over-claims t) (over-at t) over.Post
+over-lone-leaf-requires t c κs = search needs
+
+over-sub-over : (t : ℕ) → over-lts.Need-sub-over (over-claims t) (over-at t) over.Post
+over-sub-over t c = standing-live (c .before .before .before .before .pre .1)
+
+over-over-requires : (t : ℕ) → over-lts.Need-over-requires (over-claims t) (over-at t) over.Post
+over-over-requires t c κs = (omega (arith, c .before .before .before .before .pre .0, standing-live (c .before .before .before .before .pre .1)), standing-left (c .before .before .before .before .pre .1) (c .before .before .get-slot .ensures) (c .if1 .left))
+
+over-sub-over-2 : (t : ℕ) → over-lts.Need-sub-over-2 (over-claims t) (over-at t) over.Post
+over-sub-over-2 t c = standing-live (c .before .before .before .before .before .pre .1)
+
+over-over-requires-2 : (t : ℕ) → over-lts.Need-over-requires-2 (over-claims t) (over-at t) over.Post
+over-over-requires-2 t c κs = (omega (arith, c .before .before .before .before .before .pre .0, standing-live (c .before .before .before .before .before .pre .1)), standing-right (c .before .before .before .before .before .pre .1) (c .before .before .before .get-slot .ensures) (c .before .if1 .left))
+
+over-joined-requires : (t : ℕ) → over-lts.Need-joined-requires (over-claims t) (over-at t) over.Post
+over-joined-requires t c κs = (over-small (standing-left (c .before .before .before .before .before .before .pre .1) (c .before .before .before .before .get-slot .ensures) (c .before .before .if1 .left)) (c .before .over .ensures), over-small (standing-right (c .before .before .before .before .before .before .pre .1) (c .before .before .before .before .get-slot .ensures) (c .before .before .if1 .left)) (c .over2 .ensures))
+
+over-over-edge-requires : (t : ℕ) → over-lts.Need-over-edge-requires (over-claims t) (over-at t) over.Post
+over-over-edge-requires t c κs = search needs
+
+over-excess-requires : (t : ℕ) → over-lts.Need-excess-requires (over-claims t) (over-at t) over.Post
+over-excess-requires t c κs = search needs
+
+over-outside-requires : (t : ℕ) → over-lts.Need-outside-requires (over-claims t) (over-at t) over.Post
+over-outside-requires t c κs = under-inside (c .before .before .before .before .before .before .pre .1) (over-under t (c .before .before))
+
+over-mul-adding : (t : ℕ) → over-lts.Need-mul-adding (over-claims t) (over-at t) over.Post
+over-mul-adding t c = omega (arith, edge-part (c .before .before .before .before .before .before .before .pre .1) (over-under t (c .before .before .before)) (c .before .before .before .before .before .get-slot .ensures) (c .before .before .over-edge .ensures) (c .before .excess .ensures) (c .outside .result) (omega (arith, c .outside .ensures)))
+
+over-adding-requires : (t : ℕ) → over-lts.Need-adding-requires (over-claims t) (over-at t) over.Post
+over-adding-requires t c κs = edge-room (c .before .before .before .before .before .before .before .pre .1) (over-under t (c .before .before .before)) (c .before .before .before .before .before .get-slot .ensures) (c .before .before .over-edge .ensures) (c .before .excess .ensures) (c .outside .result) (omega (arith, c .outside .ensures))
+
+over-returns : (t : ℕ) → over-lts.Need-returns (over-claims t) (over-at t) over.Post
+over-returns t c = over-node (c .before .before .before .before .before .before .get-slot .ensures) (c .before .before .before .over-edge .ensures) (c .before .before .excess .ensures) (over-under t (c .before .before .before .before)) (c .before .outside .ensures) (c .adding .ensures)
+
+pub +over-spec : {M : Type 1} → statement M
++over-spec = close μ-over λ t. over-lts.spec (over-claims t)
+    (over-at t)
+    over.Post
+    (over-get-slot-requires t)
+    (over-lone-leaf-requires t)
+    (over-sub-over t)
+    (over-over-requires t)
+    (over-sub-over-2 t)
+    (over-over-requires-2 t)
+    (over-joined-requires t)
+    (over-over-edge-requires t)
+    (over-excess-requires t)
+    (over-outside-requires t)
+    (over-mul-adding t)
+    (over-adding-requires t)
+    (over-returns t)

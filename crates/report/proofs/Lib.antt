@@ -1,0 +1,5 @@
+pub mod Edges
+pub mod Walks
+pub mod Reports
+pub mod Exact
+pub mod Decides

@@ -1,0 +1,15 @@
+use mathlib.Core.Path.{refl}
+use Rattle.tree.specs.Tree.{one}
+use Rattle.report.proofs.red_edge.Statement.{statement}
+use Rattle.report.proofs.red_edge.Tie as tie
+
+returns : tie.Need-returns
+unfolding one
+returns c = rw (c .if1 .taken)
+
+returns-2 : tie.Need-returns-2
+unfolding one
+returns-2 c = rw (c .if1 .left)
+
+pub red-edge-spec : {M : Type 1} → statement M
+red-edge-spec = tie.close (tie.spec returns returns-2)
