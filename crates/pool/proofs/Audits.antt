@@ -98,11 +98,11 @@ module _ (p : List ℕ) where
     not-count h t fs f = h (W .nodes-are ∙ (ap nodes (one-top (W .top) t _ _ (W .fine) (fine-top t f)) ∙ sym (f .nodes-is)))
 
     -- No fault.
-    pub found-all : lengthGood p ≡ true → (headerOf p) .spare ≡ 0 → (headerOf p) .nodes ≤ slotsIn p
+    pub found-all : {h : Header} → h ≡ headerOf p → lengthGood p ≡ true → (headerOf p) .spare ≡ 0 → (headerOf p) .nodes ≤ slotsIn p
         → ChainSays p ((headerOf p) .free) (slotsIn p - (headerOf p) .nodes) true → n ≡ (headerOf p) .nodes
-        → audited p ≡ SoundWith (headerOf p) l
+        → SoundWith h l ≡ audited p
     unfolding spareOf
-    found-all length-good spare few chain count =
+    found-all read length-good spare few chain count =
         let T = top-facts (W .top) _ _ (W .fine) in
         let facts : LocalFacts p (W .top) (chain .slots) = record {
           good-length = length-good;
@@ -114,7 +114,7 @@ module _ (p : List ℕ) where
           chain-held = chain .chain;
           all-slots = omega (arith, W .nodes-are, chain .slots-are);
         } in
-        audited-sound facts ∙ ap (SoundWith (headerOf p)) (sym (W .level-is))
+        cc (read, W .level-is, audited-sound facts)
 
   -- The code of what the audit learns is the audit's code.
   pub audit-code : auditedCode (audited p) ≡ auditCode p

@@ -72,7 +72,7 @@ returns-6 : tie.Need-returns-6
 returns-6 c =
     let read = c .before .before .before .before .before .before .before .before .before .before .before .before .before .get-header .ensures in
     let slots = c .before .before .before .before .before .before .before .before .before .before .before .before .before .before .slots-in .ensures in
-    broken (c .before .before .before .before .before .before .before .before .before .before .before .before .before .before .before) (not-count _ (rw (c .before .before .before .n .given .1, read, slots) at (c .before .before .before .before .before .walk-top .ensures)) (rw read at (c .if5 .taken)))
+    broken (c .before .before .before .before .before .before .before .before .before .before .before .before .before .before .before) (not-count _ (rw (c .before .before .before .n .given .1, read, slots) at (c .before .before .before .before .before .walk-top .ensures)) (omega (arith, rw read at (c .if5 .taken))))
 
 returns-7 : tie.Need-returns-7
 returns-7 c =
@@ -80,7 +80,7 @@ returns-7 c =
     let slots = c .before .before .before .before .before .before .before .before .before .before .before .before .before .before .slots-in .ensures in
     let tree = rw (c .before .before .before .n .given .1, read, slots) at (c .before .before .before .before .before .walk-top .ensures) in
     let chain = rw (not-false (c .before .before .before .before .before .before .before .walk-chain .result) (c .before .before .before .before .before .before .if4 .left), read, slots) at (c .before .before .before .before .before .before .before .walk-chain .ensures) in
-    rw read (sym (found-all _ tree (good (c .before .before .before .before .before .before .before .before .before .before .before .before .before .before .before)) (rw read at (c .before .before .before .before .before .before .before .before .before .before .before .if2 .left)) (rw (read, slots) at (c .before .before .before .before .before .before .before .before .before .if3 .left)) chain (rw read at (c .if5 .left))))
+    found-all _ tree read (good (c .before .before .before .before .before .before .before .before .before .before .before .before .before .before .before)) (rw read at (c .before .before .before .before .before .before .before .before .before .before .before .if2 .left)) (rw (read, slots) at (c .before .before .before .before .before .before .before .before .before .if3 .left)) chain (omega (arith, rw read at (c .if5 .left)))
 
 pub examine-spec : {M : Type 1} → statement M
 examine-spec =
