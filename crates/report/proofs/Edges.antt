@@ -1,27 +1,15 @@
 -- An edge's weight, as code tests it: red, overweighted. Assumes nothing.
-use mathlib.Core.Path.{_≡_, refl, sym}
-use mathlib.Core.Bool.{true, false, false≢true}
+use mathlib.Core.Path.{_≡_, refl}
 use Prim.Native.Nat.{ℕ, zero, suc, _≤_, _<_}
 use native.Mathlib.Omega.{arith}
 use lib.Dec.{eqb}
 use borrow.Author.Tests.{ne-eqb}
 use Rattle.tree.specs.Tree.{red, one, overweighted}
-use Rattle.tree.specs.Distances.{ifRed}
 
 pub red-test : (w : ℕ) → eqb w 0 ≡ red w
 unfolding red
 red-test zero = refl
 red-test (suc w) = ne-eqb (suc w) 0 (omega arith)
-
-pub red-one : (w : ℕ) → red w ≡ true → 1 ≡ ifRed w 1
-unfolding red ifRed
-red-one zero e = refl
-red-one (suc w) e = absurd (false≢true e)
-
-pub red-none : (w : ℕ) → red w ≡ false → 0 ≡ ifRed w 1
-unfolding red ifRed
-red-none zero e = absurd (false≢true (sym e))
-red-none (suc w) e = refl
 
 pub over-one : (w : ℕ) → 1 < w → 1 ≡ one (overweighted w)
 unfolding one overweighted

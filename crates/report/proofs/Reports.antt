@@ -2,31 +2,28 @@
 -- they answer to the seven numbers. None wraps on the way (crate tree's Limits). Assumes nothing.
 use mathlib.Core.Path.{_≡_, refl, ap, sym, _∙_}
 use mathlib.Core.Logic.{_≢_}
-use mathlib.Core.Bool.{Bool, true, false}
 use mathlib.Core.List.{List}
-use Prim.Native.Nat.{ℕ, zero, suc, _+_, _*_, _/_, _≤_, _<_, _^_}
+use Prim.Native.Nat.{ℕ, zero, suc, _+_, _*_, _/_, _≤_}
 use native.Mathlib.Omega.{arith}
 use Rattle.tree.specs.declared.Refusal.the-variants.{PoolLength, RulesBroken}
-use Rattle.tree.specs.Codes.{mostSlots, mostLevel, code}
+use Rattle.tree.specs.Codes.{mostSlots}
 use Rattle.tree.specs.Tree.{Tree, slotOf, size, one, overweighted, level}
 use Rattle.tree.specs.Distances.{ifRed, conflicts, redDistance, overDistance, overEdges, bound}
-use Rattle.tree.specs.State.{State, Top, empty, full, nodes, Good, GoodTop, Sound, Figures, report, figures}
-use Rattle.tree.proofs.Limits.{widest, slots-within, size-within, room, Fit, figures-fit}
+use Rattle.tree.specs.State.{Top, empty, full, nodes, Good, GoodTop, Figures, report, figures}
+use Rattle.tree.proofs.Limits.{slots-within, size-within, Fit, figures-fit}
 use Rattle.tree.proofs.Demand3.{sound-held}
 use Rattle.format.specs.declared.Header.{Header}
-use Rattle.format.specs.Words.{headerOf, slotsIn, lengthGood, rootOf}
-use Rattle.format.specs.Shows.{Holds, HoldsTop, Shows}
-use Rattle.format.specs.Audit.{rulesHold, stateOf}
+use Rattle.format.specs.Words.{slotsIn, rootOf}
+use Rattle.format.specs.Shows.{Holds, HoldsTop}
+use Rattle.format.specs.Audit.{stateOf}
 use Rattle.format.proofs.Frame.{holds-root}
 use Rattle.format.proofs.Shown.{shows-root, shows-nodes, shows-length-good}
-use Rattle.format.proofs.Rules.{rules-show, show-rules}
-use Rattle.pool.specs.declared.Audited.the-variants.{Length, Broken, Sound as SoundWith}
+use Rattle.pool.specs.declared.Audited.the-variants.{Length, Broken}
 use Rattle.pool.specs.Results.{audited, levelTop}
-use Rattle.pool.proofs.Audits.{Words32, length-wrong, rules-are-broken, Kept, rules-are-kept}
+use Rattle.pool.proofs.Audits.{length-wrong, rules-are-broken, Kept}
 use Rattle.report.specs.declared.Counted.{Counted}
-use Rattle.report.specs.declared.Reported.{Reported}
 use Rattle.report.specs.Walks.{Standing, BelowOther, Over, BoundFits}
-use Rattle.report.specs.Report.{reported, figuresOf, sevenZeros, refused, reportOf, figureAt}
+use Rattle.report.specs.Report.{reported, sevenZeros, refused, reportOf, figureAt}
 
 -- A tree at the header's root, as the audit leaves it, with its L.
 pub record Ready (p : List ℕ) (h : Header) (l : ℕ) : Type 0 where

@@ -7,7 +7,7 @@ use mathlib.Core.Path.{_≡_, refl, ap, sym, _∙_}
 use mathlib.Core.Logic.{_≢_}
 use mathlib.Core.Bool.{Bool, true, false, false≢true}
 use mathlib.Core.List.{List}
-use Prim.Native.Nat.{ℕ, zero, suc, pred, _+_, _*_, _-_, _≤_, _<_, _^_}
+use Prim.Native.Nat.{ℕ, zero, suc, pred, _+_, _*_, _-_, _≤_}
 use native.Mathlib.Nat.{mul-le-mul, mul-le-mul-left}
 use native.Mathlib.Omega.{arith}
 use Rattle.tree.specs.Codes.{mostSlots, mostLevel}
@@ -19,10 +19,10 @@ use Rattle.tree.proofs.Limits.{widest, slots-within, edges-few, conflicts-few, 
 use Rattle.format.specs.declared.Slot.{Slot}
 use Rattle.format.specs.Words.{slotAt}
 use Rattle.format.specs.Shows.{Holds, holds-leaf, holds-node}
-use Rattle.format.proofs.Frame.{holds-root}
+use Rattle.format.proofs.Frame.{rootSlot, holds-root}
 use Rattle.format.proofs.RulesFound.{size-pos}
 use Rattle.report.specs.declared.Counted.{Counted}
-use Rattle.report.specs.Walks.{Standing, LoneLeaf, most, Small, Joined, Room, Adding, RedCounts, OverCounts, BelowRed, BelowOther, Over}
+use Rattle.report.specs.Walks.{Standing, LoneLeaf, most, Small, Joined, Room, Adding, RedCounts, BelowRed, BelowOther, Over}
 
 red-counts : (w : ℕ) → one (red w) ≡ ifRed w 1
 unfolding one red ifRed
@@ -30,29 +30,29 @@ red-counts zero = refl
 red-counts (suc w) = refl
 
 -- A tree at slot s, which has the words c: one with no left child is a leaf, any other a node over the trees at the slots that c names.
-data Lone (c : Slot) (w : ℕ) : Tree → Type 0 where
-  lone : {s k : ℕ} → c .weight ≡ w → Lone c w (leaf s k)
+data Lone : Tree → Type 0 where
+  lone : {s k : ℕ} → Lone (leaf s k)
 
-data Inner (p : List ℕ) (c : Slot) (w : ℕ) : Tree → Type 0 where
-  inner : {s k wl wr : ℕ} {l r : Tree} → c .weight ≡ w → Holds p wl l → slotOf l ≡ c .left → Holds p wr r → slotOf r ≡ c .right → Inner p c w (node s k wl l wr r)
+data Inner (p : List ℕ) (c : Slot) : Tree → Type 0 where
+  inner : {s k wl wr : ℕ} {l r : Tree} → Holds p wl l → slotOf l ≡ c .left → Holds p wr r → slotOf r ≡ c .right → Inner p c (node s k wl l wr r)
 
 module _ {p : List ℕ} {s : ℕ} {c : Slot} (e : c ≡ slotAt p s) where
-  lone-at : {w : ℕ} {t : Tree} → c .left ≡ 0 → Holds p w t → slotOf t ≡ s → Lone c w t
-  unfolding slotOf
-  lone-at z (holds-leaf h) i = lone (ap (λ (x : Slot). x .weight) (e ∙ (ap (slotAt p) (sym i) ∙ h .content)))
-  lone-at z (holds-node h hl hr) i = absurd (omega (arith, holds-root hl .from-one, ap (λ (x : Slot). x .left) (e ∙ (ap (slotAt p) (sym i) ∙ h .content))))
-
-  inner-at : {w : ℕ} {t : Tree} → c .left ≢ 0 → Holds p w t → slotOf t ≡ s → Inner p c w t
-  unfolding slotOf
-  inner-at z (holds-leaf h) i = absurd (z (ap (λ (x : Slot). x .left) (e ∙ (ap (slotAt p) (sym i) ∙ h .content))))
-  inner-at z (holds-node h hl hr) i =
-      let f = e ∙ (ap (slotAt p) (sym i) ∙ h .content) in
-      inner (ap (λ (x : Slot). x .weight) f) hl (sym (ap (λ (x : Slot). x .left) f)) hr (sym (ap (λ (x : Slot). x .right) f))
+  words-are : {w : ℕ} {t : Tree} → Holds p w t → slotOf t ≡ s → c ≡ rootSlot w t
+  words-are h i = e ∙ (ap (slotAt p) (sym i) ∙ holds-root h .content)
 
   weight-at : {w : ℕ} {t : Tree} → Holds p w t → slotOf t ≡ s → c .weight ≡ w
-  unfolding slotOf
-  weight-at (holds-leaf h) i = ap (λ (x : Slot). x .weight) (e ∙ (ap (slotAt p) (sym i) ∙ h .content))
-  weight-at (holds-node h hl hr) i = ap (λ (x : Slot). x .weight) (e ∙ (ap (slotAt p) (sym i) ∙ h .content))
+  weight-at (holds-leaf h) i = ap (λ (x : Slot). x .weight) (words-are (holds-leaf h) i)
+  weight-at (holds-node h hl hr) i = ap (λ (x : Slot). x .weight) (words-are (holds-node h hl hr) i)
+
+  lone-at : {w : ℕ} {t : Tree} → c .left ≡ 0 → Holds p w t → slotOf t ≡ s → Lone t
+  lone-at z (holds-leaf h) i = lone
+  lone-at z (holds-node h hl hr) i = absurd (omega (arith, holds-root hl .from-one, ap (λ (x : Slot). x .left) (words-are (holds-node h hl hr) i)))
+
+  inner-at : {w : ℕ} {t : Tree} → c .left ≢ 0 → Holds p w t → slotOf t ≡ s → Inner p c t
+  inner-at z (holds-leaf h) i = absurd (z (ap (λ (x : Slot). x .left) (words-are (holds-leaf h) i)))
+  inner-at z (holds-node h hl hr) i =
+      let f = words-are (holds-node h hl hr) i in
+      inner hl (sym (ap (λ (x : Slot). x .left) f)) hr (sym (ap (λ (x : Slot). x .right) f))
 
 -- What a walk asks for it can ask of the children.
 module _ {p : List ℕ} {s n left : ℕ} (S : Standing p s n left) where
@@ -62,19 +62,19 @@ module _ {p : List ℕ} {s n left : ℕ} (S : Standing p s n left) where
   module _ {c : Slot} (e : c ≡ slotAt p s) (z : c .left ≢ 0) where
     pub standing-left : Standing p (c .left) n (left - 1)
     unfolding Chromatic level size
-    standing-left = go (inner-at e z (S .holds) (S .at)) (S .chromatic) (S .low) (S .inside) (S .deep)
+    standing-left = go (S .weight) (inner-at e z (S .holds) (S .at)) (S .chromatic) (S .low) (S .inside) (S .deep)
       where
-        go : {w : ℕ} {t : Tree} → Inner p c w t → Chromatic w t → w + level t ≤ mostLevel + 1 → size t ≤ n → size t ≤ 2 * left → Standing p (c .left) n (left - 1)
-        go (inner {wl = wl} {l = l} {r = r} i hl el hr er) ch b g d =
+        go : (w : ℕ) {t : Tree} → Inner p c t → Chromatic w t → w + level t ≤ mostLevel + 1 → size t ≤ n → size t ≤ 2 * left → Standing p (c .left) n (left - 1)
+        go w (inner {wl = wl} {l = l} {r = r} hl el hr er) ch b g d =
             let q = size-pos r in
             record { weight = wl; tree = l; at = el; holds = hl; chromatic = ch .1; low = omega arith; inside = omega arith; few = S .few; deep = omega arith }
 
     pub standing-right : Standing p (c .right) n (left - 1)
     unfolding Chromatic level size
-    standing-right = go (inner-at e z (S .holds) (S .at)) (S .chromatic) (S .low) (S .inside) (S .deep)
+    standing-right = go (S .weight) (inner-at e z (S .holds) (S .at)) (S .chromatic) (S .low) (S .inside) (S .deep)
       where
-        go : {w : ℕ} {t : Tree} → Inner p c w t → Chromatic w t → w + level t ≤ mostLevel + 1 → size t ≤ n → size t ≤ 2 * left → Standing p (c .right) n (left - 1)
-        go (inner {wr = wr} {l = l} {r = r} i hl el hr er) ch b g d =
+        go : (w : ℕ) {t : Tree} → Inner p c t → Chromatic w t → w + level t ≤ mostLevel + 1 → size t ≤ n → size t ≤ 2 * left → Standing p (c .right) n (left - 1)
+        go w (inner {wr = wr} {l = l} {r = r} hl el hr er) ch b g d =
             let q = size-pos l in
             record { weight = wr; tree = r; at = er; holds = hr; chromatic = ch .2; low = omega arith; inside = omega arith; few = S .few; deep = omega arith }
 
@@ -190,27 +190,23 @@ module _ {p : List ℕ} {s n left : ℕ} (S : Standing p s n left) where
       edge-room = room (omega (arith, one-most (overweighted (c .weight)))) edge-part (under-small (f (S .weight) (S .tree) (S .holds) (S .at)))
 
 -- A leaf's answers.
+leaf-counts : {n : ℕ} {t : Tree} {r : Counted} (v : ℕ) → Lone t → LoneLeaf r → RedCounts n v t r
+unfolding size forRed conflicts redDistance
+leaf-counts v lone f = record { nodes-are = f .0; number-is = omega (arith, f .1, ifRed-le v 0); distance-is = omega (arith, f .2, ifRed-le v 0) }
+
+leaf-under : {n : ℕ} {t : Tree} {r : Counted} → Lone t → LoneLeaf r → Under n t r
+unfolding size overEdges overDistance
+leaf-under lone f = record { nodes-are = f .0; number-is = f .1; distance-is = f .2 }
+
 module _ {p : List ℕ} {s n : ℕ} {c : Slot} {r : Counted} (e : c ≡ slotAt p s) (z : c .left ≡ 0) (f : LoneLeaf r) where
   pub red-leaf : BelowRed p s n r
-  unfolding size ifRed forRed conflicts redDistance
-  red-leaf w t h i = go (lone-at e z h i)
-    where
-      go : {t : Tree} → Lone c w t → RedCounts n 0 t r
-      go (lone g) = record { nodes-are = f .0; number-is = f .1; distance-is = f .2 }
+  red-leaf w t h i = leaf-counts 0 (lone-at e z h i) f
 
   pub other-leaf : BelowOther p s n r
-  unfolding size ifRed forRed conflicts redDistance
-  other-leaf w t h i = go (lone-at e z h i)
-    where
-      go : {t : Tree} → Lone c w t → RedCounts n 1 t r
-      go (lone g) = record { nodes-are = f .0; number-is = f .1; distance-is = f .2 }
+  other-leaf w t h i = leaf-counts 1 (lone-at e z h i) f
 
   pub under-leaf : Unders p s n r
-  unfolding size overEdges overDistance
-  under-leaf w t h i = go (lone-at e z h i)
-    where
-      go : {t : Tree} → Lone c w t → Under n t r
-      go (lone g) = record { nodes-are = f .0; number-is = f .1; distance-is = f .2 }
+  under-leaf w t h i = leaf-under (lone-at e z h i) f
 
 -- A node's answers: the children's, added up ..
 module _ {p : List ℕ} {s n : ℕ} {c : Slot} {a b u : Counted} (e : c ≡ slotAt p s) (z : c .left ≢ 0) where
@@ -218,8 +214,8 @@ module _ {p : List ℕ} {s n : ℕ} {c : Slot} {a b u : Counted} (e : c ≡ slot
   unfolding size ifRed conflicts redDistance
   other-node A B J w t h i = go (inner-at e z h i)
     where
-      go : {t : Tree} → Inner p c w t → RedCounts n 1 t u
-      go (inner {wl = wl} {wr = wr} {l = l} {r = r} g hl el hr er) =
+      go : {t : Tree} → Inner p c t → RedCounts n 1 t u
+      go (inner {wl = wl} {wr = wr} {l = l} {r = r} hl el hr er) =
           let L = A wl l hl el in
           let R = B wr r hr er in
           record {
@@ -232,8 +228,8 @@ module _ {p : List ℕ} {s n : ℕ} {c : Slot} {a b u : Counted} (e : c ≡ slot
   unfolding size overEdges overDistance
   under-node A B J w t h i = go (inner-at e z h i)
     where
-      go : {t : Tree} → Inner p c w t → Under n t u
-      go (inner {wl = wl} {wr = wr} {l = l} {r = r} g hl el hr er) =
+      go : {t : Tree} → Inner p c t → Under n t u
+      go (inner {wl = wl} {wr = wr} {l = l} {r = r} hl el hr er) =
           let L = A wl l hl el in
           let R = B wr r hr er in
           record {
@@ -243,10 +239,10 @@ module _ {p : List ℕ} {s n : ℕ} {c : Slot} {a b u : Counted} (e : c ≡ slot
           }
 
 -- .. below a red edge with its own conflicts, one for each red child edge ..
-own-are : {p : List ℕ} {c : Slot} {w : ℕ} {t : Tree} {x y : Bool} → x ≡ red ((slotAt p (c .left)) .weight) → y ≡ red ((slotAt p (c .right)) .weight)
-    → Inner p c w t → one x + one y ≡ forRed 1 t
+own-are : {p : List ℕ} {c : Slot} {t : Tree} {x y : Bool} → x ≡ red ((slotAt p (c .left)) .weight) → y ≡ red ((slotAt p (c .right)) .weight)
+    → Inner p c t → one x + one y ≡ forRed 1 t
 unfolding forRed
-own-are ex ey (inner {wl = wl} {wr = wr} g hl el hr er) = rw (ex, ey, weight-at refl hl el, weight-at refl hr er, red-counts wl, red-counts wr)
+own-are ex ey (inner {wl = wl} {wr = wr} hl el hr er) = rw (ex, ey, weight-at refl hl el, weight-at refl hr er, red-counts wl, red-counts wr)
 
 pub red-node : {p : List ℕ} {s n far : ℕ} {c : Slot} {u r : Counted} {x y : Bool} → c ≡ slotAt p s → c .left ≢ 0 → x ≡ red ((slotAt p (c .left)) .weight) → y ≡ red ((slotAt p (c .right)) .weight)
     → BelowOther p s n u → far ≡ n - u .nodes → Adding u (one x + one y) ((one x + one y) * far) r → BelowRed p s n r

@@ -1,10 +1,8 @@
-use Rattle.report.proofs.Edges.{red-test}
+-- `report::is_red` meets its contract: it tests the weight that the words of slot s give. Assumes nothing.
 use borrow.Author.Needs.{needs}
+use Rattle.report.proofs.Edges.{red-test}
 use Rattle.report.proofs.is_red.Statement.{statement}
 use Rattle.report.proofs.is_red.Tie as tie
-use Rattle.report.proofs.is_red.Reads as reads
-use Rattle.report.proofs.is_red.Lts as lts
-use Rattle.slots.proofs.get_slot.Reads as get-slot-reads
 
 get-slot-requires : tie.Need-get-slot-requires
 get-slot-requires c κs = search needs

@@ -1,9 +1,7 @@
+-- `report::over_edge` meets its contract: an edge above 1 counts one, any other none. Assumes nothing.
 use Rattle.report.proofs.Edges.{over-one, over-none}
-use borrow.Author.Needs.{needs}
 use Rattle.report.proofs.over_edge.Statement.{statement}
 use Rattle.report.proofs.over_edge.Tie as tie
-use Rattle.report.proofs.over_edge.Reads as reads
-use Rattle.report.proofs.over_edge.Lts as lts
 
 returns : tie.Need-returns
 returns c = over-one _ (c .if1 .taken)

@@ -1,4 +1,4 @@
-use mathlib.Core.Path.{refl}
+-- `report::red_edge` meets its contract: one for yes, none for no. Assumes nothing.
 use Rattle.tree.specs.Tree.{one}
 use Rattle.report.proofs.red_edge.Statement.{statement}
 use Rattle.report.proofs.red_edge.Tie as tie

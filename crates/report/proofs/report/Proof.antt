@@ -1,15 +1,11 @@
-use native.Mathlib.Omega.{arith}
+-- `report::report` meets its contract: each answer of the audit has its own case of the definition. Assumes nothing.
 use mathlib.Core.Path.{sym, _∙_}
+use native.Mathlib.Omega.{arith}
+use borrow.Author.Needs.{needs}
 use Rattle.pool.proofs.Audits.{rules-are-kept}
 use Rattle.report.proofs.Reports.{length-report, broken-report, kept-report}
-use borrow.Author.Needs.{needs}
 use Rattle.report.proofs.report.Statement.{statement}
 use Rattle.report.proofs.report.Tie as tie
-use Rattle.report.proofs.report.Reads as reads
-use Rattle.report.proofs.report.Lts as lts
-use Rattle.pool.proofs.examine.Reads as examine-reads
-use Rattle.report.proofs.figures.Reads as figures-reads
-use Rattle.report.proofs.zeros.Reads as zeros-reads
 
 examine-requires : tie.Need-examine-requires
 examine-requires c κs = search needs

@@ -1,10 +1,10 @@
-use Rattle.report.proofs.Reports.{figure-none}
+-- `Reported::number` meets its contract. In the arm of an index from 1 to 7 both sides compute; in the last arm it is none of them, so
+-- it names no number. Assumes nothing.
 use Rattle.tree.specs.State.{figures}
 use Rattle.report.specs.Report.{figureAt}
+use Rattle.report.proofs.Reports.{figure-none}
 use Rattle.report.proofs.Reported.number.Statement.{statement}
 use Rattle.report.proofs.Reported.number.Tie as tie
-use Rattle.report.proofs.Reported.number.Reads as reads
-use Rattle.report.proofs.Reported.number.Lts as lts
 
 returns : tie.Need-returns
 unfolding figureAt figures
@@ -34,6 +34,7 @@ returns-7 : tie.Need-returns-7
 unfolding figureAt figures
 returns-7 c = rw (c .match .keys7)
 
+-- `c .match .rest` is the tuple of the seven that it is not, the last first
 returns-8 : tie.Need-returns-8
 returns-8 c =
     let none = c .match .rest in
