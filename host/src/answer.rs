@@ -29,6 +29,24 @@ impl Refused {
     /// The code of [`Refused::FewAnswers`].
     pub const FEW_ANSWERS: u32 = 4;
 
+    /// The code.
+    pub fn code(self) -> u32 {
+        match self {
+            Refused::WrongLength => Refused::WRONG_LENGTH,
+            Refused::RulesBroken => Refused::RULES_BROKEN,
+            Refused::BadCommand { .. } => Refused::BAD_COMMAND,
+            Refused::FewAnswers => Refused::FEW_ANSWERS,
+        }
+    }
+
+    /// The number beside the code: the byte of a bad command, else 0.
+    pub fn number(self) -> u32 {
+        match self {
+            Refused::BadCommand { byte } => byte,
+            Refused::WrongLength | Refused::RulesBroken | Refused::FewAnswers => 0,
+        }
+    }
+
     /// A call's answer, good or refused.
     pub(crate) fn check(code: u32, number: u32) -> Result<(), Refused> {
         match code {

@@ -1,0 +1,140 @@
+-- `batch` meets its contract: its tests are 01's, in 01's order, and where none refuses the call `run` leaves what the call leaves.
+-- Assumes nothing.
+use mathlib.Core.Bool.{true}
+use mathlib.Core.Path.{_≡_, sym, _∙_}
+use native.Mathlib.Omega.{arith}
+use borrow.Author.Tests.{not-true, not-false}
+use Rattle.tree.specs.declared.Refusal.the-variants.{PoolLength, RulesBroken, BadCommand, FewAnswers}
+use Rattle.format.specs.Words.{lengthGood}
+use Rattle.batch.proofs.Cases.{call-length}
+use Rattle.batch.proofs.Calls.{refuses, place-fits, count-fits, finds-bad, finds-few, finds-broken, finds-ready, finds-none}
+use borrow.Author.Needs.{needs}
+use Rattle.batch.proofs.batch.Statement.{statement}
+use Rattle.batch.proofs.batch.Tie as tie
+
+-- Where c stands at a place of the code, `s` below is the scan, `r` the test of the room, `a` the audit.
+
+-- beyond the first test the length is good
+good : (c : tie.Else1) → lengthGood (c .before .before .before .before .before .before .args .pool .now) ≡ true
+good c = sym (c .before .length-good .ensures) ∙ not-false _ (c .if1 .left)
+
+length-good-requires : tie.Need-length-good-requires
+length-good-requires c κs = search needs
+
+refuse-requires : tie.Need-refuse-requires
+refuse-requires c κs = search needs
+
+same-length : tie.Need-same-length
+same-length c = search needs
+
+returns : tie.Need-returns
+returns c = refuses PoolLength (call-length _ _ _ (sym (c .before .before .length-good .ensures) ∙ not-true _ (c .before .if1 .taken))) (c .refuse .ensures)
+
+scan-requires : tie.Need-scan-requires
+scan-requires c κs = search needs
+
+enum-known-found : tie.Need-enum-known-found
+enum-known-found c = search needs
+
+cast-refuse : tie.Need-cast-refuse
+cast-refuse c = omega (arith, place-fits _ _ (c .before .before .before .scan .ensures) _ (c .before .found .given .1))
+
+refuse-requires-2 : tie.Need-refuse-requires-2
+refuse-requires-2 c κs = search needs
+
+enum-known-found-2 : tie.Need-enum-known-found-2
+enum-known-found-2 c = search needs
+
+mul-if2 : tie.Need-mul-if2
+mul-if2 c = omega (arith, count-fits _ _ (c .before .before .before .scan .ensures) _ (c .before .found2 .given .1))
+
+refuse-requires-3 : tie.Need-refuse-requires-3
+refuse-requires-3 c κs = search needs
+
+same-length-2 : tie.Need-same-length-2
+same-length-2 c = search needs
+
+returns-2 : tie.Need-returns-2
+returns-2 c =
+    let s = c .before .before .before .before .before in
+    let few = finds-few _ _ (s .scan .ensures) _ _ (good (s .before)) _ (c .before .before .before .found2 .given .1) (c .before .if2 .taken) in
+    refuses FewAnswers few (c .refuse3 .ensures)
+
+audit-requires : tie.Need-audit-requires
+audit-requires c κs = search needs
+
+refuse-requires-4 : tie.Need-refuse-requires-4
+refuse-requires-4 c κs = search needs
+
+same-length-3 : tie.Need-same-length-3
+same-length-3 c = search needs
+
+returns-3 : tie.Need-returns-3
+returns-3 c =
+    let r = c .before .before .before .before in
+    let s = r .before .before .before .before in
+    let audited = rw (c .before .before .audit .ensures) at (c .before .if3 .taken) in
+    let broken = finds-broken _ _ (s .scan .ensures) _ _ (good (s .before)) _ (r .before .before .found2 .given .1) (r .if2 .left) audited in
+    refuses RulesBroken broken (c .refuse4 .ensures)
+
+run-requires : tie.Need-run-requires
+run-requires c κs =
+    let a = c .before .before .before in
+    let r = a .before .before in
+    let s = r .before .before .before .before in
+    let words = s .before .before .before .before .before .before in
+    let audited = sym (a .audit .ensures) ∙ c .before .before .if3 .left in
+    finds-ready _ _ (s .scan .ensures) _ _ (good (s .before)) _ (r .before .before .found2 .given .1) (r .if2 .left) audited
+    (λ i. omega (arith, words .slice-known .given i))
+
+same-length-4 : tie.Need-same-length-4
+same-length-4 c = search needs
+
+returns-4 : tie.Need-returns-4
+returns-4 c =
+    let s = c .before .before .before .before in
+    refuses BadCommand (finds-bad _ _ (s .scan .ensures) _ _ (good (s .before)) _ (c .before .before .found .given .1)) (c .refuse2 .ensures)
+
+same-length-5 : tie.Need-same-length-5
+same-length-5 c = search needs
+
+same-length-6 : tie.Need-same-length-6
+same-length-6 c = search needs
+
+returns-5 : tie.Need-returns-5
+returns-5 c =
+    let ran = c .before .before .before .before in
+    let a = ran .before .before .before .before in
+    let r = a .before .before in
+    let s = r .before .before .before .before in
+    let audited = sym (a .audit .ensures) ∙ ran .before .before .before .if3 .left in
+    let none = finds-none _ _ (s .scan .ensures) _ _ (good (s .before)) _ (r .before .before .found2 .given .1) (r .if2 .left) audited in
+    (sym (none .0), (sym (none .1), ran .run .ensures))
+
+pub batch-spec : {M : Type 1} → statement M
+batch-spec =
+    tie.close
+    (tie.spec
+    length-good-requires
+    refuse-requires
+    same-length
+    returns
+    scan-requires
+    enum-known-found
+    cast-refuse
+    refuse-requires-2
+    enum-known-found-2
+    mul-if2
+    refuse-requires-3
+    same-length-2
+    returns-2
+    audit-requires
+    refuse-requires-4
+    same-length-3
+    returns-3
+    run-requires
+    same-length-4
+    returns-4
+    same-length-5
+    same-length-6
+    returns-5)

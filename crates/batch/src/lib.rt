@@ -1,0 +1,116 @@
+// 01, The batch: a call reads the whole batch and audits the pool before anything runs; then the commands run in order.
+use commands::Operation;
+use commands::Scanned;
+use commands::command_at;
+use commands::scan;
+use format::Command;
+use format::Reading;
+use pool::audit;
+use slots::length_good;
+use slots::put_word;
+use steps::settle;
+use steps::step;
+use tree::Answer;
+use tree::Refusal;
+use updates::delete;
+use updates::insert;
+use updates::search;
+ghost use mathlib.Core.Path.{_≡_};
+ghost use Rattle.tree.specs.Codes.{code};
+ghost use Rattle.format.specs.Batch.{batch};
+ghost use Rattle.batch.specs.Performing.{performOn, putAnswer};
+ghost use Rattle.batch.specs.Calls.{Ready};
+
+// 01: "Each command fills two answer words, code and number".
+const ANSWER_WORDS: usize = 2;
+
+// One command. (No command that was read has another operation.)
+fn perform(pool: &mut [u32], c: Command) -> Answer
+    ensures answer { λ r. ⌜ r ≡ (performOn c (now (pool .entry))) .answer ⌝ }
+    ensures pool { λ _. ⌜ now (pool .exit) ≡ (performOn c (now (pool .entry))) .words ⌝ }
+{
+    let operation = c.operation;
+    match operation {
+        Operation::SEARCH => search(pool, c.first),
+        Operation::INSERT => insert(pool, c.first),
+        Operation::DELETE => delete(pool, c.first),
+        Operation::STEP => step(pool, c.first, c.second),
+        Operation::SETTLE => settle(pool, c.first),
+        _ => Answer::Refused(Refusal::KeyAbsent),
+    }
+}
+
+// An answer's two words, from word `place` on. Past the end nothing is written.
+fn put_answer(answers: &mut [u32], place: usize, a: Answer)
+    ensures { λ _. ⌜ now (answers .exit) ≡ putAnswer (now (answers .entry)) place a ⌝ }
+{
+    if place < answers.len() {
+        put_word(answers, place, a.code());
+        put_word(answers, place + 1, a.number());
+    }
+}
+
+// 01: "Commands run in order and a refused command does not stop the rest."
+fn run(pool: &mut [u32], bytes: &[u8], answers: &mut [u32])
+    requires { ⌜ Ready (now pool) (now bytes) (now answers) ⌝ }
+    ensures pool { λ _. ⌜ now (pool .exit) ≡ (batch (now (pool .entry)) (now (bytes .entry)) (now (answers .entry))) .pool ⌝ }
+    ensures answers { λ _. ⌜ now (answers .exit) ≡ (batch (now (pool .entry)) (now (bytes .entry)) (now (answers .entry))) .answers ⌝ }
+{
+    let mut at: usize = 0;
+    let mut place: usize = 0;
+    while at < bytes.len() {
+        let Reading::Good(c, next) = command_at(bytes, at) else {
+            return;
+        };
+        let a = perform(pool, c);
+        put_answer(answers, place, a);
+        place += ANSWER_WORDS;
+        at = next;
+    }
+}
+
+// A call's own code and number.
+pub struct Called {
+    pub code: u32,
+    pub number: u32,
+}
+
+fn refuse(f: Refusal, number: u32) -> Called
+    ensures code { λ r. ⌜ r .code ≡ code f ⌝ }
+    ensures number { λ r. ⌜ r .number ≡ number ⌝ }
+{
+    Called {
+        code: f.code(),
+        number,
+    }
+}
+
+// 01: "Codes 1 to 4 refuse the call, in the order 1, 3, 4, 2, and change no word." "A call that is not refused gives 0 and number 0
+// itself."
+pub fn batch(pool: &mut [u32], bytes: &[u8], answers: &mut [u32]) -> Called
+    ensures code { λ r. ⌜ r .code ≡ (batch (now (pool .entry)) (now (bytes .entry)) (now (answers .entry))) .code ⌝ }
+    ensures number { λ r. ⌜ r .number ≡ (batch (now (pool .entry)) (now (bytes .entry)) (now (answers .entry))) .number ⌝ }
+    ensures pool { λ _. ⌜ now (pool .exit) ≡ (batch (now (pool .entry)) (now (bytes .entry)) (now (answers .entry))) .pool ⌝ }
+    ensures answers { λ _. ⌜ now (answers .exit) ≡ (batch (now (pool .entry)) (now (bytes .entry)) (now (answers .entry))) .answers ⌝ }
+{
+    if !length_good(pool) {
+        return refuse(Refusal::PoolLength, 0);
+    }
+    let found = scan(bytes);
+    match found {
+        Scanned::BadAt(place) => refuse(Refusal::BadCommand, place as u32),
+        Scanned::Commands(count) => {
+            if answers.len() < ANSWER_WORDS * count {
+                return refuse(Refusal::FewAnswers, 0);
+            }
+            if audit(pool) != Answer::DONE {
+                return refuse(Refusal::RulesBroken, 0);
+            }
+            run(pool, bytes, answers);
+            Called {
+                code: Answer::DONE,
+                number: 0,
+            }
+        }
+    }
+}

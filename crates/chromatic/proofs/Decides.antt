@@ -1,0 +1,31 @@
+-- Each export's contract decides its result and every lent word. Assumes nothing.
+use Rattle.tree.proofs.Deciding.{DecidesResult, DecidesWords, equal}
+use Rattle.chromatic.proofs.chromatic_prepare.Kinds as prepare-kinds
+use Rattle.chromatic.proofs.chromatic_prepare.Reads as prepare-reads
+use Rattle.chromatic.proofs.chromatic_audit.Kinds as audit-kinds
+use Rattle.chromatic.proofs.chromatic_audit.Reads as audit-reads
+use Rattle.chromatic.proofs.chromatic_report.Kinds as report-kinds
+use Rattle.chromatic.proofs.chromatic_report.Reads as report-reads
+use Rattle.chromatic.proofs.chromatic_batch.Kinds as batch-kinds
+use Rattle.chromatic.proofs.chromatic_batch.Reads as batch-reads
+
+pub prepare-decides : DecidesResult 1 prepare-kinds.ps prepare-kinds.r prepare-reads.Post
+prepare-decides κs a x y e f p q = equal (p .0) (q .0)
+
+pub prepare-decides-pool : DecidesWords 1 prepare-kinds.ps prepare-kinds.r (λ κs e. e .0 .now) prepare-reads.Post
+prepare-decides-pool κs a x y e f p q = equal (p .1) (q .1)
+
+pub audit-decides : DecidesResult 1 audit-kinds.ps audit-kinds.r audit-reads.Post
+audit-decides κs a x y e f p q = equal p q
+
+pub report-decides : DecidesResult 1 report-kinds.ps report-kinds.r report-reads.Post
+report-decides κs a x y e f p q = equal p q
+
+pub batch-decides : DecidesResult 3 batch-kinds.ps batch-kinds.r batch-reads.Post
+batch-decides κs a x y e f p q = equal (p .0) (q .0)
+
+pub batch-decides-pool : DecidesWords 3 batch-kinds.ps batch-kinds.r (λ κs e. e .0 .now) batch-reads.Post
+batch-decides-pool κs a x y e f p q = equal (p .1 .0) (q .1 .0)
+
+pub batch-decides-answers : DecidesWords 3 batch-kinds.ps batch-kinds.r (λ κs e. e .1 .1 .0 .now) batch-reads.Post
+batch-decides-answers κs a x y e f p q = equal (p .1 .1) (q .1 .1)
