@@ -9,9 +9,8 @@ use native.Mathlib.Omega.{arith}
 use native.Mathlib.Decide.{ℕ-discrete}
 use lib.ListN.{length}
 use borrow.Author.Tests.{eq-eqb, ne-eqb}
-use Rattle.tree.specs.Codes.{mostSlots}
-use Rattle.tree.specs.Tree.{one, countIn}
-use Rattle.tree.specs.State.{upwards, prepared, nodes, countTop, GoodTop, Sound}
+use Rattle.tree.specs.State.{upwards, prepared, nodes, Sound}
+use Rattle.tree.proofs.Updated.{prepared-sound}
 use Rattle.format.specs.Words.{header, headerOf, putHeader, slotAt, putSlot, slotsIn, lengthGood, freeSlot, headOf, inChain, inTop, rootOf, spareOf, shownSlot, shownHeader, wordsOf}
 use Rattle.format.proofs.Slots.{header-same, header-length, slot-length, slot-same, slot-other, header-after-slot, same-words, words-length, words-header, words-slot}
 use Rattle.format.specs.Shows.{Shows}
@@ -106,36 +105,6 @@ unfolding prepareCode preparedWords
 prepare-done p q n s h e k l = rw (h, prepareCode, preparedWords) (refl, rw (← e) (chaining-last q n s k l))
 
 -- A prepared pool shows the empty State, which is sound. So the audit accepts it.
-up-below : (s a n : ℕ) → s < a → countIn s (upwards a n) ≡ 0
-unfolding upwards countIn one
-up-below s a zero h = refl
-up-below s a (suc n) h = rw (ne-eqb s a (omega arith)) (omega (arith, up-below s (suc a) n (omega arith)))
-
-up-above : (s a n : ℕ) → a + n ≤ s → countIn s (upwards a n) ≡ 0
-unfolding upwards countIn one
-up-above s a zero h = refl
-up-above s a (suc n) h = rw (ne-eqb s a (omega arith)) (omega (arith, up-above s (suc a) n (omega arith)))
-
-up-once : (s a n : ℕ) → a ≤ s → s < a + n → countIn s (upwards a n) ≡ 1
-unfolding upwards countIn one
-up-once s a zero h b = absurd (omega arith)
-up-once s a (suc n) h b = go (ℕ-discrete s a) (up-once s (suc a) n)
-  where
-    go : Dec (s ≡ a) → (suc a ≤ s → s < suc a + n → countIn s (upwards (suc a) n) ≡ 1) → countIn s (upwards a (suc n)) ≡ 1
-    go (yes e) f = rw (eq-eqb s a e) (omega (arith, up-below s (suc a) n (omega arith)))
-    go (no d) f = rw (ne-eqb s a d) (omega (arith, f (omega arith) (omega arith)))
-
-pub prepared-sound : (n : ℕ) → 1 ≤ n → n ≤ mostSlots → Sound (prepared n)
-unfolding prepared countTop GoodTop
-prepared-sound n from to = record {
-  some = from;
-  few = to;
-  once = λ s l b. omega (arith, up-once s 1 n l (omega arith));
-  none-zero = omega (arith, up-below 0 1 n (omega arith));
-  none-above = λ s b. omega (arith, up-above s 1 n (omega arith));
-  good = tt;
-}
-
 pub prepared-shows : (p : List ℕ) → lengthGood p ≡ true → Sound (prepared (slotsIn p)) × Shows (preparedWords p) (prepared (slotsIn p))
 unfolding preparedWords
 prepared-shows p h =

@@ -1,0 +1,155 @@
+-- Demand 2's last sentence. After prepare and any number of batch calls, with any bytes and any answer words, refused calls, steps and
+-- settles among them, the set has exactly the keys that were inserted with code 0 and not since deleted with code 0 (`history`,
+-- `history-keys`); search finds exactly those (`history-search`), and so does a search command anywhere in a further call
+-- (`search-tells`).
+-- Why: an insert with code 0 adds its key and no other, a delete with code 0 takes its key and no other, and nothing else moves a key
+-- (crate tree); so after each command the set is what the log tells. Assumes nothing.
+use mathlib.Core.Path.{_≡_, refl, ap, sym, _∙_}
+use mathlib.Core.Logic.{_↔_}
+use mathlib.Core.Bool.{Bool, true, false}
+use mathlib.Core.List.{List, [], _∷_, _++_}
+use lib.ListN.{length, getD}
+use native.Mathlib.Omega.{arith}
+use Prim.Native.Nat.{ℕ, _*_}
+use Rattle.tree.specs.declared.Answer.the-variants.{Done}
+use Rattle.tree.specs.Codes.{codeOf}
+use Rattle.tree.specs.Tree.{countIn}
+use Rattle.tree.specs.State.{State, keysOf, Sound, Outcome, search, step}
+use Rattle.tree.specs.Settle.{settle}
+use Rattle.tree.proofs.Tests.{same-or-not, one-same, one-other}
+use Rattle.tree.proofs.Updated.{occursTop, isIn, search-kept, search-codes as search-codes-state, InsertSays, present, no-room, added, insert-says, DeleteSays, absent, removed, delete-says}
+use Rattle.tree.proofs.StepState.{step-keeps-keys}
+use Rattle.format.specs.declared.Command.{Command}
+use Rattle.format.specs.Audit.{stateOf}
+use Rattle.format.specs.Batch.{commands, readBatch, perform, runAll, batch}
+use Rattle.format.specs.Words.{lengthGood}
+use Rattle.pool.specs.Results.{prepareCode, preparedWords}
+use Rattle.updates.specs.Updating.{searchAnswer}
+use Rattle.set.specs.Set.{Passing, member}
+use Rattle.set.proofs.Members.{occurs-is, member-shown, settle-keeps-keys}
+use Rattle.set.proofs.Passing.{passing-state}
+use Rattle.set.proofs.Promises.{prepare-passing, prepare-says, search-codes}
+use Rattle.demands.specs.Calls.{searchNumber, insertNumber, deleteNumber, Entry, entries, logOf, Bytes, Calls, no-call, then-call, tells, toldFrom, told, InsertedSince}
+use Rattle.demands.proofs.Told.{other-operation, other-key, other-code, tells-insert, tells-delete, told-append, told-exactly}
+use Rattle.demands.proofs.Runs.{Performs, as-none, as-search, as-insert, as-delete, as-step, as-settle, performs, AllSmall, small-append, perform-sound, run-sound, entry, entriesOf}
+use Rattle.demands.proofs.Called.{Result, call-kept, call-did, call-result, call-ran, calls-passing}
+use Rattle.demands.proofs.Ends.{command-words}
+
+-- One command: what is in the set after it is what its entry tells.
+module _ (x : ℕ) (c : Command) (S : State) (sound : Sound S) where
+  -- the same keys
+  same-keys : (T : State) → keysOf (T .top) ≡ keysOf (S .top) → isIn x T ≡ isIn x S
+  same-keys T e = sym (occurs-is x (T .top)) ∙ (ap (countIn x) e ∙ occurs-is x (S .top))
+
+  insert-told : {o : Outcome} → c .operation ≡ insertNumber → InsertSays (c .first) S o → isIn x (o .after) ≡ tells x (entry c (o .answer)) (isIn x S)
+  unfolding occursTop
+  insert-told op (present i) = sym (other-code x _ (isIn x S) (λ z. omega arith))
+  insert-told op (no-room i h) = sym (other-code x _ (isIn x S) (λ z. omega arith))
+  insert-told op (added {s} i h k f) = same-or-not (c .first) x
+      (λ e. let z : isIn x S ≡ 0 = rw e at i in omega (arith, k x, one-same x (c .first) (sym e), tells-insert x (entry c (Done s)) (isIn x S) op e refl))
+      (λ n. omega (arith, k x, one-other x (c .first) (λ e. n (sym e)), other-key x (entry c (Done s)) (isIn x S) n))
+
+  delete-told : {o : Outcome} → c .operation ≡ deleteNumber → DeleteSays (c .first) S o → isIn x (o .after) ≡ tells x (entry c (o .answer)) (isIn x S)
+  delete-told op (absent i) = sym (other-code x _ (isIn x S) (λ z. omega arith))
+  delete-told op (removed {n = m} i l k) = same-or-not (c .first) x
+      (λ e. let z : isIn x S ≡ 1 = rw e at i in omega (arith, k x, one-same x (c .first) (sym e), tells-delete x (entry c (Done m)) (isIn x S) op e refl))
+      (λ n. omega (arith, k x, one-other x (c .first) (λ e. n (sym e)), other-key x (entry c (Done m)) (isIn x S) n))
+
+  perform-told : isIn x ((perform c S) .after) ≡ tells x (entry c ((perform c S) .answer)) (isIn x S)
+  perform-told = go (performs c S)
+    where
+      go : {o : Outcome} → Performs c S o → isIn x (o .after) ≡ tells x (entry c (o .answer)) (isIn x S)
+      go (as-none e) = sym (other-operation x _ (isIn x S) (λ z. omega arith) (λ z. omega arith))
+      go (as-search e) = ap (isIn x) (search-kept (c .first) S sound) ∙ sym (other-operation x _ (isIn x S) (λ z. omega arith) (λ z. omega arith))
+      go (as-insert e) = insert-told e (insert-says (c .first) S sound)
+      go (as-delete e) = delete-told e (delete-says (c .first) S sound)
+      go (as-step e) = same-keys ((step (c .first) (c .second) S) .after) (step-keeps-keys (c .first) (c .second) S sound) ∙ sym (other-operation x _ (isIn x S) (λ z. omega arith) (λ z. omega arith))
+      go (as-settle e) = same-keys ((settle (c .first) S) .after) (settle-keeps-keys S (c .first) sound) ∙ sym (other-operation x _ (isIn x S) (λ z. omega arith) (λ z. omega arith))
+
+-- a search command searches
+searches : {c : Command} {S : State} {o : Outcome} → Performs c S o → c .operation ≡ searchNumber → codeOf (o .answer) ≡ codeOf ((search (c .first) S) .answer)
+searches (as-none e) op = absurd (omega arith)
+searches (as-search e) op = refl
+searches (as-insert e) op = absurd (omega arith)
+searches (as-delete e) op = absurd (omega arith)
+searches (as-step e) op = absurd (omega arith)
+searches (as-settle e) op = absurd (omega arith)
+
+-- All commands of a call.
+run-told : (x : ℕ) (cs : List Command) (S : State) → AllSmall cs → Sound S → isIn x (runAll cs S) ≡ toldFrom x (isIn x S) (entriesOf cs S)
+unfolding runAll entriesOf toldFrom AllSmall
+run-told x [] S h g = refl
+run-told x (c ∷ cs) S h g =
+    run-told x cs ((perform c S) .after) (h .1) (perform-sound c S (h .0) g)
+    ∙ ap (λ (n : ℕ). toldFrom x n (entriesOf cs ((perform c S) .after))) (perform-told x c S g)
+
+member-state : {p : List ℕ} → Passing p → (x : ℕ) → member x p ≡ isIn x (stateOf p)
+member-state g x = let S = passing-state g in member-shown (S .0) (S .1) x
+
+-- One call.
+call-told : {p : List ℕ} → Passing p → (bytes out : List ℕ) → Bytes bytes → (x : ℕ) → member x ((batch p bytes out) .pool) ≡ toldFrom x (member x p) (logOf p bytes out)
+unfolding toldFrom
+call-told {p} g bytes out b x = go (call-result g bytes out b)
+  where
+    go : Result p bytes out → member x ((batch p bytes out) .pool) ≡ toldFrom x (member x p) (logOf p bytes out)
+    go (call-kept n q l) = rw (q, l)
+    go (call-did {cs} z f r) =
+        rw (r .log-is, member-state g x) (member-shown (r .sound-after) (r .shows-after) x ∙ run-told x cs (stateOf p) (r .small) (r .sound))
+
+-- Any number of calls.
+calls-told : {p q : List ℕ} {log : List Entry} → Passing p → Calls p log q → (x : ℕ) → member x q ≡ toldFrom x (member x p) log
+unfolding toldFrom
+calls-told g no-call x = refl
+calls-told {p} g (then-call {log} {q} calls bytes out b) x =
+    call-told (calls-passing g calls) bytes out b x
+    ∙ (ap (λ (n : ℕ). toldFrom x n (logOf q bytes out)) (calls-told g calls x) ∙ sym (told-append x (member x p) log (logOf q bytes out)))
+
+-- "Prepare gives 0 or 1": with 0 the pool is prepared.
+prepared-good : (w : List ℕ) → prepareCode w ≡ 0 → lengthGood w ≡ true
+unfolding prepareCode
+prepared-good w h = go (lengthGood w) refl
+  where
+    go : (b : Bool) → lengthGood w ≡ b → lengthGood w ≡ true
+    go true e = e
+    go false e = absurd (omega (arith, rw (e, prepareCode) at h))
+
+-- After prepare.
+module _ (w : List ℕ) {q : List ℕ} {log : List Entry} (prepared : prepareCode w ≡ 0) (calls : Calls (preparedWords w) log q) where
+  pub history : (x : ℕ) → member x q ≡ told x log
+  history x =
+      let l = prepared-good w prepared in
+      calls-told (prepare-passing w l) calls x ∙ ap (λ (n : ℕ). toldFrom x n log) (prepare-says w l .no-member x)
+
+  -- the same, as the sentence
+  pub history-keys : (x : ℕ) → (member x q ≡ 1) ↔ InsertedSince x log
+  history-keys x = (λ h. told-exactly x log .0 (sym (history x) ∙ h), λ s. history x ∙ told-exactly x log .1 s)
+
+  pub history-passing : Passing q
+  history-passing = calls-passing (prepare-passing w (prepared-good w prepared)) calls
+
+  -- The set's search, on the words that are left.
+  pub history-search : (x : ℕ) → (codeOf (searchAnswer q x) ≡ 0) ↔ (told x log ≡ 1)
+  history-search x =
+      let k = search-codes history-passing x .done-when in
+      (λ z. sym (history x) ∙ k .0 z, λ h. k .1 (history x ∙ h))
+
+  -- A search for x in a further call, after the commands `before` of that call: code 0 exactly when the log up to there tells x.
+  module _ (bytes out : List ℕ) (b : Bytes bytes) (given : (batch q bytes out) .code ≡ 0) where
+    pub search-tells : (before : List Command) (c : Command) (rest : List Command) → readBatch bytes ≡ commands (before ++ (c ∷ rest))
+        → c .operation ≡ searchNumber
+        → (getD ((batch q bytes out) .answers) (2 * length before) 0 ≡ 0) ↔ (told (c .first) (log ++ entries before ((batch q bytes out) .answers)) ≡ 1)
+    search-tells before c rest read op =
+        let x = c .first in
+        let g = history-passing in
+        let R = call-ran g bytes out b given read in
+        let S = runAll before (stateOf q) in
+        let small = small-append before (c ∷ rest) (R .small) .0 in
+        let sound : Sound S = run-sound before (stateOf q) small (R .sound) in
+        let w = command-words g bytes out b given before c rest read in
+        let code-is : codeOf ((perform c S) .answer) ≡ codeOf ((search x S) .answer) = searches (performs c S) op in
+        let in-is : isIn x S ≡ told x (log ++ entries before ((batch q bytes out) .answers)) =
+        run-told x before (stateOf q) small (R .sound)
+        ∙ (ap (λ (n : ℕ). toldFrom x n (entriesOf before (stateOf q))) (sym (member-state g x) ∙ history x)
+        ∙ (sym (told-append x 0 log (entriesOf before (stateOf q))) ∙ ap (λ (l : List Entry). told x (log ++ l)) (sym (w .first-entries)))) in
+        let k = search-codes-state x S sound .done in
+        (λ z. sym in-is ∙ k .0 (sym (w .code-word ∙ code-is) ∙ z), λ z. w .code-word ∙ (code-is ∙ k .1 (in-is ∙ z)))

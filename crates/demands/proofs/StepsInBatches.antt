@@ -1,0 +1,139 @@
+-- Demand 3 through batch. Over any number of calls with no accepted insert or delete among their commands, the accepted steps, that is
+-- the step commands answered with code 0 and the steps that settle commands report, are at most the report's seventh number of the
+-- first pool (`steps-in-batches`, `steps-at-most`).
+-- Why: an accepted step lowers that number, a settle lowers it by its steps or more, and a search or a refused command leaves the pool
+-- as it was. Of keys nothing is said here. Assumes nothing.
+use mathlib.Core.Path.{_≡_, refl, ap}
+use mathlib.Core.Logic.{_≢_}
+use mathlib.Core.Bool.{Bool, true, false}
+use mathlib.Core.List.{List, [], _∷_, _++_}
+use lib.Dec.{eqb}
+use borrow.Author.Tests.{eq-eqb, ne-eqb}
+use native.Mathlib.Omega.{arith}
+use Prim.Native.Nat.{ℕ, _+_, _≤_}
+use Rattle.tree.specs.declared.Answer.the-variants.{Done, Refused}
+use Rattle.tree.specs.declared.Refusal.{Refusal}
+use Rattle.tree.specs.declared.Refusal.the-variants.{PoolLength, RulesBroken, BadCommand, FewAnswers, KeyPresent, KeyAbsent, NoRoom, NoInnerNode, NoSuchKind, ConditionFalse, LevelLimit}
+use Rattle.tree.specs.Codes.{kindNumber, code}
+use Rattle.tree.specs.State.{State, Sound, Outcome, refuses, search, insert, delete, step}
+use Rattle.tree.specs.Settle.{settle}
+use Rattle.tree.proofs.Updated.{search-kept, insert-kept, delete-kept}
+use Rattle.tree.proofs.StepState.{Stepping, refused as step-refused, taken as step-taken, stepping}
+use Rattle.tree.proofs.Demand3.{boundOf, accepted-falls}
+use Rattle.format.specs.declared.Command.{Command}
+use Rattle.format.specs.Audit.{stateOf}
+use Rattle.format.specs.Batch.{perform, runAll, batch}
+use Rattle.set.specs.Set.{Passing}
+use Rattle.set.specs.Balance.{boundNumber}
+use Rattle.set.proofs.Passing.{passing-state}
+use Rattle.set.proofs.Balancing.{bound-shown, settle-state-falls}
+use Rattle.demands.specs.Calls.{stepNumber, settleNumber, Entry, logOf, Bytes, Calls, no-call, then-call, stepsOf, stepsIn, NoUpdate, NoUpdates}
+use Rattle.demands.proofs.Runs.{Performs, as-none, as-search, as-insert, as-delete, as-step, as-settle, performs, AllSmall, perform-sound, entry, entriesOf}
+use Rattle.demands.proofs.Called.{Result, call-kept, call-did, call-result, calls-passing}
+
+-- The steps of an entry: none of another operation, at most one of a step, and of a settle at most its number.
+module _ (e : Entry) where
+  steps-other : e .command .operation ≢ stepNumber → e .command .operation ≢ settleNumber → stepsOf e ≡ 0
+  unfolding stepsOf
+  steps-other f g = rw (ne-eqb _ _ f, stepsOf, ne-eqb _ _ g)
+
+  steps-one : e .command .operation ≡ stepNumber → stepsOf e ≤ 1
+  unfolding stepsOf
+  steps-one f = go (eqb (e .code) 0) refl
+    where
+      go : (b : Bool) → eqb (e .code) 0 ≡ b → stepsOf e ≤ 1
+      go true h = rw (eq-eqb _ _ f, stepsOf, h) (omega arith)
+      go false h = rw (eq-eqb _ _ f, stepsOf, h, ne-eqb (e .command .operation) settleNumber (λ z. omega arith)) (omega arith)
+
+  steps-refused : e .command .operation ≡ stepNumber → e .code ≢ 0 → stepsOf e ≡ 0
+  unfolding stepsOf
+  steps-refused f n = rw (eq-eqb _ _ f, stepsOf, ne-eqb (e .code) 0 n, ne-eqb (e .command .operation) settleNumber (λ z. omega arith))
+
+  steps-settle : e .command .operation ≢ stepNumber → stepsOf e ≤ e .number
+  unfolding stepsOf
+  steps-settle f = go (eqb (e .command .operation) settleNumber) refl
+    where
+      go : (b : Bool) → eqb (e .command .operation) settleNumber ≡ b → stepsOf e ≤ e .number
+      go true h = rw (ne-eqb _ _ f, stepsOf, h) (omega arith)
+      go false h = rw (ne-eqb _ _ f, stepsOf, h) (omega arith)
+
+-- a refusal's code is not 0
+refusal-some : (f : Refusal) → code f ≢ 0
+refusal-some PoolLength z = omega arith
+refusal-some RulesBroken z = omega arith
+refusal-some BadCommand z = omega arith
+refusal-some FewAnswers z = omega arith
+refusal-some KeyPresent z = omega arith
+refusal-some KeyAbsent z = omega arith
+refusal-some NoRoom z = omega arith
+refusal-some NoInnerNode z = omega arith
+refusal-some NoSuchKind z = omega arith
+refusal-some ConditionFalse z = omega arith
+refusal-some LevelLimit z = omega arith
+
+-- One command, of a sound State: its steps lower the bound.
+module _ (c : Command) (S : State) (sound : Sound S) where
+  abbrev Falls : Outcome → Type 0
+  Falls o = stepsOf (entry c (o .answer)) + boundOf (o .after) ≤ boundOf S
+
+  -- a command that is no step and leaves the State as it was
+  falls-kept : (o : Outcome) → c .operation ≢ stepNumber → c .operation ≢ settleNumber → o .after ≡ S → Falls o
+  falls-kept o f g k = let b : boundOf (o .after) ≡ boundOf S = ap boundOf k in omega (arith, steps-other (entry c (o .answer)) f g)
+
+  step-falls : c .operation ≡ stepNumber → {o : Outcome} → Stepping (c .first) (c .second) S o → step (c .first) (c .second) S ≡ o → Falls o
+  step-falls op (step-refused {f} r) e = omega (arith, steps-refused (entry c (Refused f)) op (refusal-some f))
+  step-falls op (step-taken {t} {k} a i n b) e =
+      let f = accepted-falls (c .first) (c .second) (kindNumber k) S sound (ap (λ (o : Outcome). o .answer) e) in
+      let same = ap (λ (o : Outcome). boundOf (o .after)) e in
+      omega (arith, steps-one (entry c (Done (kindNumber k))) op)
+
+  perform-falls : NoUpdate (entry c ((perform c S) .answer)) → Falls (perform c S)
+  perform-falls u = go (performs c S) u
+    where
+      go : {o : Outcome} → Performs c S o → NoUpdate (entry c (o .answer)) → Falls o
+      go (as-none e) u = falls-kept (refuses KeyAbsent S) (λ z. omega arith) (λ z. omega arith) refl
+      go (as-search e) u = falls-kept (search (c .first) S) (λ z. omega arith) (λ z. omega arith) (search-kept (c .first) S sound)
+      go (as-insert e) u = falls-kept (insert (c .first) S) (λ z. omega arith) (λ z. omega arith) (insert-kept (c .first) S sound (λ z. u .no-insert z e))
+      go (as-delete e) u = falls-kept (delete (c .first) S) (λ z. omega arith) (λ z. omega arith) (delete-kept (c .first) S sound (λ z. u .no-delete z e))
+      go (as-step e) u = step-falls e (stepping (c .first) (c .second) S) refl
+      go (as-settle e) u =
+          omega (arith, steps-settle (entry c ((settle (c .first) S) .answer)) (λ z. omega arith), settle-state-falls S (c .first) sound)
+
+-- All commands of a call, and any number of calls.
+run-falls : (cs : List Command) (S : State) → AllSmall cs → Sound S → NoUpdates (entriesOf cs S) → stepsIn (entriesOf cs S) + boundOf (runAll cs S) ≤ boundOf S
+unfolding runAll entriesOf stepsIn NoUpdates AllSmall
+run-falls [] S h g u = omega arith
+run-falls (c ∷ cs) S h g u =
+    omega (arith, perform-falls c S g (u .0), run-falls cs ((perform c S) .after) (h .1) (perform-sound c S (h .0) g) (u .1))
+
+call-falls : {p : List ℕ} → Passing p → (bytes out : List ℕ) → Bytes bytes → NoUpdates (logOf p bytes out)
+    → stepsIn (logOf p bytes out) + boundNumber ((batch p bytes out) .pool) ≤ boundNumber p
+unfolding stepsIn
+call-falls {p} g bytes out b u = go (call-result g bytes out b)
+  where
+    go : Result p bytes out → stepsIn (logOf p bytes out) + boundNumber ((batch p bytes out) .pool) ≤ boundNumber p
+    go (call-kept n q l) = rw (q, l) (omega arith)
+    go (call-did {cs} z f r) =
+        let before = bound-shown (passing-state g .0) (passing-state g .1) in
+        let after = bound-shown (r .sound-after) (r .shows-after) in
+        rw (r .log-is) (omega (arith, run-falls cs (stateOf p) (r .small) (r .sound) (rw (r .log-is) at u)))
+
+steps-append : (l m : List Entry) → stepsIn (l ++ m) ≡ stepsIn l + stepsIn m
+unfolding stepsIn
+steps-append [] m = omega arith
+steps-append (e ∷ l) m = omega (arith, steps-append l m)
+
+no-updates-append : (l m : List Entry) → NoUpdates (l ++ m) → NoUpdates l × NoUpdates m
+unfolding NoUpdates
+no-updates-append [] m u = (tt, u)
+no-updates-append (e ∷ l) m u = let r = no-updates-append l m (u .1) in ((u .0, r .0), r .1)
+
+pub steps-in-batches : {p q : List ℕ} {log : List Entry} → Passing p → Calls p log q → NoUpdates log → stepsIn log + boundNumber q ≤ boundNumber p
+unfolding stepsIn
+steps-in-batches g no-call u = omega arith
+steps-in-batches g (then-call {log} {q} calls bytes out b) u =
+    let s = no-updates-append log (logOf q bytes out) u in
+    omega (arith, steps-append log (logOf q bytes out), steps-in-batches g calls (s .0), call-falls (calls-passing g calls) bytes out b (s .1))
+
+pub steps-at-most : {p q : List ℕ} {log : List Entry} → Passing p → Calls p log q → NoUpdates log → stepsIn log ≤ boundNumber p
+steps-at-most g calls u = omega (arith, steps-in-batches g calls u)

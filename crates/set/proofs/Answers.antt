@@ -1,0 +1,163 @@
+-- Search, insert, delete, prepare, step and settle on words that pass the audit: what they answer and what set the words then show.
+-- Behind the page Promises.antt; not for crates above.
+-- Why: on words that show a sound State each operation is the State's (the crates' `…-shows`), of which crate tree says what it answers
+-- and which keys it moves, and Members.antt what the words then show. Assumes nothing.
+use mathlib.Core.Path.{_≡_, refl, ap, sym, _∙_}
+use mathlib.Core.Bool.{true}
+use mathlib.Core.List.{List}
+use native.Mathlib.Omega.{arith}
+use Prim.Native.Nat.{ℕ, pred, _+_, _*_, _≤_, _<_}
+use Rattle.tree.specs.declared.Answer.{Answer}
+use Rattle.tree.specs.declared.Answer.the-variants.{Done, Refused}
+use Rattle.tree.specs.declared.Refusal.{Refusal}
+use Rattle.tree.specs.declared.Refusal.the-variants.{KeyPresent, KeyAbsent, NoRoom}
+use Rattle.tree.specs.Codes.{codeOf}
+use Rattle.tree.specs.State.{keyEnd, Sound, Outcome, prepared, keysOf}
+use Rattle.tree.proofs.Updated.{occursTop, isIn, isIn-once, SearchSays, found, missing, InsertSays, present, no-room, added, DeleteSays, absent, removed}
+use Rattle.tree.proofs.Updated.{search-says as search-says-state, insert-says as insert-says-state, delete-says as delete-says-state, insert-sound, delete-sound}
+use Rattle.tree.proofs.StepState.{step-keeps-keys, step-sound-state}
+use Rattle.tree.proofs.Settling.{settle-sound-state}
+use Rattle.format.specs.Words.{slotsIn, lengthGood}
+use Rattle.format.specs.Shows.{Shows}
+use Rattle.format.proofs.Shown.{shows-length-good}
+use Rattle.pool.specs.Results.{preparedWords}
+use Rattle.pool.proofs.Prepares.{prepared-shows}
+use Rattle.updates.specs.Updating.{searchAnswer, insertAnswer, insertWords, deleteAnswer, deleteWords}
+use Rattle.updates.proofs.SearchShows.{search-shows}
+use Rattle.updates.proofs.InsertShows.{insert-shows}
+use Rattle.updates.proofs.DeleteShows.{delete-shows}
+use Rattle.steps.specs.Steps.{stepWords, settleWords}
+use Rattle.steps.proofs.StepShows.{step-shows}
+use Rattle.steps.proofs.SettleShows.{settle-shows}
+use Rattle.set.specs.Set.{Passing, member, held, room, needed, OneMore, SameSet, Prepared, Searched, here, nowhere, Inserted, key-present, room-lacking, inserted, Deleted, key-absent, gone, KeyCodes, InsertCodes}
+use Rattle.set.proofs.Members.{upwards-length, member-shown, held-shown, room-shown, needed-shown, room-held, one-more, same-set, Moves, insert-moves, delete-moves, step-free, settle-keeps-keys, settle-free}
+use Rattle.updates.proofs.Kept.{insert-kept, delete-kept}
+
+-- A set: no key is in it twice; and k keys take 2k - 1 slots.
+pub member-once : {p : List ℕ} → Passing p → (x : ℕ) → member x p ≤ 1
+member-once g x = omega (arith, member-shown (g .1) (g .2) x, isIn-once x (g .0) (g .1))
+
+pub room-exact : {p : List ℕ} → Passing p → pred (2 * held p) + room p ≡ slotsIn p
+room-exact g = room-held (g .1) (g .2) ∙ sym (shows-length-good (g .1) (g .2) .1)
+
+pub prepare-says : (p : List ℕ) → lengthGood p ≡ true → Prepared (preparedWords p) (slotsIn p)
+unfolding prepared keysOf occursTop
+prepare-says p h =
+    let s = prepared-shows p h in
+    record { no-member = λ x. member-shown (s .0) (s .1) x; none-held = held-shown (s .0) (s .1); all-free = room-shown (s .0) (s .1) ∙ upwards-length 1 (slotsIn p) }
+
+pub search-says : {p : List ℕ} → Passing p → (x : ℕ) → Searched x p (searchAnswer p x)
+search-says {p} g x = rw (search-shows p x (g .0) (g .1) (g .2)) (go (search-says-state x (g .0) (g .1)))
+  where
+    is : member x p ≡ isIn x (g .0)
+    is = member-shown (g .1) (g .2) x
+
+    go : {o : Outcome} → SearchSays x (g .0) o → Searched x p (o .answer)
+    go (found i e f) = here (is ∙ i)
+    go (missing i) = nowhere (is ∙ i)
+
+pub search-codes : {p : List ℕ} → Passing p → (x : ℕ) → KeyCodes x p (codeOf (searchAnswer p x))
+search-codes {p} g x = go (search-says g x)
+  where
+    go : {a : Answer} → Searched x p a → KeyCodes x p (codeOf a)
+    go (here i) = omega arith
+    go (nowhere i) = omega arith
+
+pub insert-says : {p : List ℕ} → Passing p → (x : ℕ) → x < keyEnd → Inserted x p (insertAnswer p x) (insertWords p x)
+unfolding occursTop
+insert-says {p} g x h =
+    let s = insert-shows p x (g .0) (g .1) (g .2) in
+    go (insert-says-state x (g .0) (g .1)) (insert-moves x (g .0) (g .1)) (insert-sound x (g .0) (g .1) h) (s .0) (s .1)
+  where
+    is : member x p ≡ isIn x (g .0)
+    is = member-shown (g .1) (g .2) x
+
+    go : {o : Outcome} → InsertSays x (g .0) o → Moves (g .0) o 0 1 → Sound (o .after) → insertAnswer p x ≡ o .answer
+        → Shows (insertWords p x) (o .after) → Inserted x p (insertAnswer p x) (insertWords p x)
+    go (present i) m t e f = rw (insert-kept p x KeyPresent e, e) (key-present (is ∙ i))
+    go (no-room i r) m t e f = rw (insert-kept p x NoRoom e, e) (room-lacking (is ∙ i) (omega (arith, room-shown (g .1) (g .2), needed-shown (g .1) (g .2))))
+    go (added i r k l) m t e f =
+        let enough : needed p ≤ room p = omega (arith, room-shown (g .1) (g .2), needed-shown (g .1) (g .2)) in
+        rw e (inserted (is ∙ i) enough (one-more (g .1) (g .2) t f (m .slots-stay) (omega (arith, m .by-one refl)) x k))
+
+pub insert-codes : {p : List ℕ} → Passing p → (x : ℕ) → x < keyEnd → InsertCodes x p (codeOf (insertAnswer p x))
+insert-codes {p} g x h = go (insert-says g x h)
+  where
+    go : {a : Answer} {q : List ℕ} → Inserted x p a q → InsertCodes x p (codeOf a)
+    go (key-present i) = omega arith
+    go (room-lacking i r) = omega arith
+    go (inserted i r m) = omega arith
+
+pub delete-says : {p : List ℕ} → Passing p → (x : ℕ) → Deleted x p (deleteAnswer p x) (deleteWords p x)
+delete-says {p} g x =
+    let s = delete-shows p x (g .0) (g .1) (g .2) in
+    go (delete-says-state x (g .0) (g .1)) (delete-moves x (g .0) (g .1)) (delete-sound x (g .0) (g .1)) (s .0) (s .1)
+  where
+    is : member x p ≡ isIn x (g .0)
+    is = member-shown (g .1) (g .2) x
+
+    go : {o : Outcome} → DeleteSays x (g .0) o → Moves (g .0) o 1 0 → Sound (o .after) → deleteAnswer p x ≡ o .answer
+        → Shows (deleteWords p x) (o .after) → Deleted x p (deleteAnswer p x) (deleteWords p x)
+    go (absent i) m t e f = rw (delete-kept p x KeyAbsent e, e) (key-absent (is ∙ i))
+    go (removed i n k) m t e f =
+        rw (e ∙ ap Done (n ∙ sym (held-shown t f)))
+        (gone (is ∙ i) (one-more t f (g .1) (g .2) (sym (m .slots-stay)) (omega (arith, m .by-one refl)) x k))
+
+pub delete-codes : {p : List ℕ} → Passing p → (x : ℕ) → KeyCodes x p (codeOf (deleteAnswer p x))
+delete-codes {p} g x = go (delete-says g x)
+  where
+    go : {a : Answer} {q : List ℕ} → Deleted x p a q → KeyCodes x p (codeOf a)
+    go (key-absent i) = omega arith
+    go (gone i m) = omega arith
+
+-- Settle and step: the set and its room are as before.
+pub settle-same : {p : List ℕ} → Passing p → (budget : ℕ) → SameSet p (settleWords p budget)
+settle-same g b =
+    same-set (g .1) (g .2) (settle-sound-state (g .0) b (g .1)) (settle-shows (g .1) (g .2) b .1) (settle-keeps-keys (g .0) b (g .1)) (settle-free (g .0) b)
+
+pub step-same : {p : List ℕ} → Passing p → (s n : ℕ) → SameSet p (stepWords p s n)
+step-same g s n =
+    same-set (g .1) (g .2) (step-sound-state s n (g .0) (g .1)) (step-shows (g .1) (g .2) s n .1) (step-keeps-keys s n (g .0) (g .1)) (step-free s n (g .0))
+
+-- The same by the answer, for code that matches on it.
+module _ {p : List ℕ} (g : Passing p) (x : ℕ) where
+  pub search-done : {s : ℕ} → searchAnswer p x ≡ Done s → member x p ≡ 1
+  search-done e = search-codes g x .done-when .0 (ap codeOf e)
+
+  pub search-refused : {f : Refusal} → searchAnswer p x ≡ Refused f → member x p ≡ 0
+  search-refused {f} = go (search-says g x)
+    where
+      go : {a : Answer} → Searched x p a → a ≡ Refused f → member x p ≡ 0
+      go (here i) e = let z : _≡_ {A = ℕ} 0 1 = cc in absurd (omega arith)
+      go (nowhere i) e = i
+
+  pub insert-done : {s : ℕ} → x < keyEnd → insertAnswer p x ≡ Done s → (member x p ≡ 0) × OneMore x p (insertWords p x)
+  insert-done {s} h = go (insert-says g x h)
+    where
+      go : {a : Answer} {q : List ℕ} → Inserted x p a q → a ≡ Done s → (member x p ≡ 0) × OneMore x p q
+      go (key-present i) e = let z : _≡_ {A = ℕ} 0 1 = cc in absurd (omega arith)
+      go (room-lacking i r) e = let z : _≡_ {A = ℕ} 0 1 = cc in absurd (omega arith)
+      go (inserted i r m) e = (i, m)
+
+  -- refused, a key that is not there had no room
+  pub insert-refused : {f : Refusal} → x < keyEnd → member x p ≡ 0 → insertAnswer p x ≡ Refused f → (f ≡ NoRoom) × (room p < needed p)
+  insert-refused {f} h i = go (insert-says g x h)
+    where
+      go : {a : Answer} {q : List ℕ} → Inserted x p a q → a ≡ Refused f → (f ≡ NoRoom) × (room p < needed p)
+      go (key-present j) e = absurd (omega arith)
+      go (room-lacking j r) e = (cc, r)
+      go (inserted j r m) e = let z : _≡_ {A = ℕ} 0 1 = cc in absurd (omega arith)
+
+  pub delete-done : {n : ℕ} → deleteAnswer p x ≡ Done n → (n ≡ held (deleteWords p x)) × (member x p ≡ 1) × OneMore x (deleteWords p x) p
+  delete-done {n} = go (delete-says g x)
+    where
+      go : {a : Answer} {q : List ℕ} → Deleted x p a q → a ≡ Done n → (n ≡ held q) × (member x p ≡ 1) × OneMore x q p
+      go (key-absent i) e = let z : _≡_ {A = ℕ} 0 1 = cc in absurd (omega arith)
+      go (gone i m) e = (cc, i, m)
+
+  pub delete-refused : {f : Refusal} → deleteAnswer p x ≡ Refused f → member x p ≡ 0
+  delete-refused {f} = go (delete-says g x)
+    where
+      go : {a : Answer} {q : List ℕ} → Deleted x p a q → a ≡ Refused f → member x p ≡ 0
+      go (key-absent i) e = i
+      go (gone i m) e = let z : _≡_ {A = ℕ} 0 1 = cc in absurd (omega arith)

@@ -1,0 +1,147 @@
+-- Demand 3 over pools that pass the audit, by the report's own numbers: m accepted step calls in a row, of any slots and kinds, lower
+-- the report's seventh number by m or more (`steps-bounded`), so that they are at most (3N+1)D + 2NR + Q (`steps-few`); some call is
+-- accepted until R and the overweighted edges are 0, and then none (`some-accepted`, `none-accepted`). Settle's steps lower it too
+-- (`settle-falls`), its code is 0 exactly when it leaves a red-black tree (`settle-balanced`), and a budget of that number is enough
+-- (`settle-enough`).
+-- Why: crate tree's Demand3.antt says so of sound States; the report of words that show one gives its numbers, and step and settle on
+-- such words are its step and settle. Of keys nothing is said here. Assumes nothing.
+use mathlib.Core.Path.{_≡_, refl, ap, sym, _∙_}
+use mathlib.Core.Logic.{_↔_, _⊎_, inl, inr}
+use mathlib.Core.List.{List}
+use mathlib.Core.Option.{Option, none, some}
+use native.Mathlib.Omega.{arith}
+use native.Mathlib.Decide.{decLe}
+use Prim.Native.Nat.{ℕ, _+_, _*_, _≤_, _<_}
+use Rattle.tree.specs.declared.Answer.{Answer}
+use Rattle.tree.specs.declared.Answer.the-variants.{Done, Spent}
+use Rattle.tree.specs.Codes.{kindNumber, codeOf, numberOf}
+use Rattle.tree.specs.Tree.{Tree}
+use Rattle.tree.specs.Distances.{bound}
+use Rattle.tree.specs.State.{State, Top, empty, full, Sound, report}
+use Rattle.tree.specs.Settle.{settled, settle}
+use Rattle.tree.proofs.StepState.{step-sound-state}
+use Rattle.tree.proofs.Settling.{lastAfter, settle-ends, sound-proper, settle-after, settle-answer, settle-number, settle-empty, settle-sound-state}
+use Rattle.tree.proofs.Settled.{trees-bounded}
+use Rattle.tree.proofs.Demand3.{boundOf, Balanced as BalancedState, accepted-falls, SomeAccepted, some-accepted-is, some-accepted as some-accepted-state, none-accepted as none-accepted-state, settle-code-0, settle-enough as settle-enough-state}
+use Rattle.format.specs.Shows.{Shows}
+use Rattle.report.specs.declared.Reported.{Reported}
+use Rattle.report.specs.Report.{reportOf}
+use Rattle.report.proofs.Exact.{report-exact}
+use Rattle.steps.specs.Steps.{stepAnswer, stepWords, settleAnswer, settleWords}
+use Rattle.steps.proofs.StepShows.{step-shows}
+use Rattle.steps.proofs.SettleShows.{settle-shows}
+use Rattle.set.specs.Set.{Passing, Settles, done, spent}
+use Rattle.set.specs.Balance.{boundNumber, Balanced, Stepping, no-step, one-step}
+use Rattle.set.proofs.Passing.{step-passing}
+
+-- The report of words that show a sound State gives its numbers.
+module _ {p : List ℕ} {S : State} (sound : Sound S) (shows : Shows p S) where
+  pub bound-shown : boundNumber p ≡ boundOf S
+  unfolding boundNumber
+  bound-shown = ap (λ (r : Reported). r .bound) (report-exact sound shows)
+
+  balanced-shown : Balanced p ↔ BalancedState S
+  balanced-shown =
+      let e = report-exact sound shows in
+      let c : (reportOf p) .conflicts ≡ (report (S .top)) .redConflicts = ap (λ (r : Reported). r .conflicts) e in
+      let o : (reportOf p) .overweighted ≡ (report (S .top)) .overweightEdges = ap (λ (r : Reported). r .overweighted) e in (
+        λ b. record { no-conflict = sym c ∙ b .no-conflict; no-overweight = sym o ∙ b .no-overweight },
+        λ b. record { no-conflict = c ∙ b .no-conflict; no-overweight = o ∙ b .no-overweight },
+      )
+
+  -- (3N+1)D + 2NR + Q of the report's own numbers
+  formula : boundNumber p ≡ (3 * (reportOf p) .nodes + 1) * (reportOf p) .«over_distance» + 2 * (reportOf p) .nodes * (reportOf p) .conflicts + (reportOf p) .«red_distance»
+  unfolding report bound
+  formula = bound-shown ∙ rw (report-exact sound shows) (go (S .top))
+    where
+      go : (t : Top) → (report t) .stepBound ≡ (3 * (report t) .nodeCount + 1) * (report t) .overweightDistance + 2 * (report t) .nodeCount * (report t) .redConflicts + (report t) .redRedDistance
+      go empty = refl
+      go (full t) = refl
+
+-- Every accepted step call lowers the bound.
+pub step-falls : {p : List ℕ} → Passing p → (s n a : ℕ) → stepAnswer p s n ≡ Done a → boundNumber (stepWords p s n) < boundNumber p
+step-falls g s n a d =
+    let e = step-shows (g .1) (g .2) s n in
+    omega (arith, bound-shown (g .1) (g .2), bound-shown (step-sound-state s n (g .0) (g .1)) (e .1), accepted-falls s n a (g .0) (g .1) (sym (e .0) ∙ d))
+
+pub steps-bounded : {m : ℕ} {p q : List ℕ} → Passing p → Stepping m p q → m + boundNumber q ≤ boundNumber p
+steps-bounded g no-step = omega arith
+steps-bounded g (one-step {a = a} s n d rest) = omega (arith, step-falls g s n a d, steps-bounded (step-passing g s n) rest)
+
+pub steps-few : {m : ℕ} {p q : List ℕ} → Passing p → Stepping m p q
+    → m ≤ (3 * (reportOf p) .nodes + 1) * (reportOf p) .«over_distance» + 2 * (reportOf p) .nodes * (reportOf p) .conflicts + (reportOf p) .«red_distance»
+steps-few g h = rw (← formula (g .1) (g .2)) (omega (arith, steps-bounded g h))
+
+-- Until the tree is red-black some slot and kind are accepted, and then none.
+pub some-accepted : {p : List ℕ} → Passing p → Balanced p ⊎ ((s n : ℕ) × (stepAnswer p s n ≡ Done n))
+some-accepted {p} g = go (some-accepted-state (g .0) (g .1))
+  where
+    go : BalancedState (g .0) ⊎ SomeAccepted (g .0) → Balanced p ⊎ ((s n : ℕ) × (stepAnswer p s n ≡ Done n))
+    go (inl b) = inl (balanced-shown (g .1) (g .2) .1 b)
+    go (inr (some-accepted-is s k d)) = inr (s, kindNumber k, step-shows (g .1) (g .2) s (kindNumber k) .0 ∙ d)
+
+pub none-accepted : {p : List ℕ} → Passing p → Balanced p → (s n a : ℕ) → stepAnswer p s n ≡ Done a → ⊥
+none-accepted g b s n a d = none-accepted-state (g .0) (g .1) (balanced-shown (g .1) (g .2) .0 b) s n a (sym (step-shows (g .1) (g .2) s n .0) ∙ d)
+
+-- Settle, of States: its steps lower the bound by as many; and how it answers.
+pub settle-state-falls : (S : State) (budget : ℕ) → Sound S → numberOf ((settle budget S) .answer) + boundOf ((settle budget S) .after) ≤ boundOf S
+unfolding report
+settle-state-falls S b h = go (S .top) refl
+  where
+    go : (T : Top) → S .top ≡ T → numberOf ((settle b S) .answer) + boundOf ((settle b S) .after) ≤ boundOf S
+    go empty e = rw (settle-empty S e b) (omega arith)
+    go (full t) e =
+        let before : boundOf S ≡ bound t = rw e in
+        let left : boundOf ((settle b S) .after) ≡ bound (lastAfter (S .slots) b t) = rw (settle-after S t e b) in
+        omega (arith, settle-number S t e b, trees-bounded (S .slots) b t (sound-proper S t e h))
+
+-- done, with no step left; or spent, with the whole budget taken
+pub data Ended (budget : ℕ) : Answer → Type 0 where
+  ended-done : {n : ℕ} → Ended budget (Done n)
+  ended-spent : Ended budget (Spent budget)
+
+pub settle-ended : (S : State) (budget : ℕ) → Ended budget ((settle budget S) .answer)
+unfolding settled
+settle-ended S b = go (S .top) refl
+  where
+    tree : (n : ℕ) (o : Option Tree) → (n ≡ b) ⊎ (o ≡ none) → Ended b (settled n o)
+    tree n none h = ended-done
+    tree n (some u) (inl e) = rw e ended-spent
+    tree n (some u) (inr e) = let z : _≡_ {A = ℕ} 0 1 = cc in absurd (omega arith)
+
+    go : (T : Top) → S .top ≡ T → Ended b ((settle b S) .answer)
+    go empty e = rw (settle-empty S e b) ended-done
+    go (full t) e = rw (settle-answer S t e b) (tree _ _ (settle-ends (S .slots) b t))
+
+-- Settle, of pools.
+module _ {p : List ℕ} (g : Passing p) (budget : ℕ) where
+  shown : (settleAnswer p budget ≡ (settle budget (g .0)) .answer) × Shows (settleWords p budget) ((settle budget (g .0)) .after)
+  shown = settle-shows (g .1) (g .2) budget
+
+  pub settle-falls : numberOf (settleAnswer p budget) + boundNumber (settleWords p budget) ≤ boundNumber p
+  settle-falls =
+      let after = bound-shown (settle-sound-state (g .0) budget (g .1)) (shown .1) in
+      omega (arith, ap numberOf (shown .0), after, bound-shown (g .1) (g .2), settle-state-falls (g .0) budget (g .1))
+
+  pub settle-balanced : (codeOf (settleAnswer p budget) ≡ 0) ↔ Balanced (settleWords p budget)
+  settle-balanced =
+      let c = settle-code-0 (g .0) budget (g .1) in
+      let e = ap codeOf (shown .0) in
+      let b = balanced-shown (settle-sound-state (g .0) budget (g .1)) (shown .1) in
+      (λ z. b .1 (c .0 (sym e ∙ z)), λ y. e ∙ c .1 (b .0 y))
+
+  pub settle-enough : boundNumber p ≤ budget → codeOf (settleAnswer p budget) ≡ 0
+  settle-enough h =
+      let b = settle-enough-state (g .0) budget (g .1) (omega (arith, bound-shown (g .1) (g .2))) in
+      ap codeOf (shown .0) ∙ settle-code-0 (g .0) budget (g .1) .1 b
+
+  pub settle-answers : Settles budget (boundNumber p) (settleAnswer p budget)
+  settle-answers = go (settle-ended (g .0) budget) (shown .0)
+    where
+      few : settleAnswer p budget ≡ Spent budget → Dec (boundNumber p ≤ budget) → budget < boundNumber p
+      few e (yes h) = absurd (omega (arith, ap codeOf e, settle-enough h))
+      few e (no n) = omega arith
+
+      go : {a : Answer} → Ended budget a → settleAnswer p budget ≡ a → Settles budget (boundNumber p) (settleAnswer p budget)
+      go (ended-done {n}) e = rw e (done {n = n} (omega (arith, ap numberOf e, settle-falls)))
+      go ended-spent e = rw e (spent (few e (decLe (boundNumber p) budget)))

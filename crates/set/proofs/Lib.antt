@@ -1,0 +1,6 @@
+pub mod Words
+pub mod Passing
+pub mod Balancing
+pub mod Members
+pub mod Answers
+pub mod Promises

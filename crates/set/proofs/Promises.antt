@@ -1,0 +1,137 @@
+-- What the set promises, to the crates above it: on words that pass the audit, what its operations answer and what set the words then
+-- show. This page and specs/Set.antt are all that they cite; nothing behind it is theirs.
+--
+-- `member x p` is 1 if x is in the set that the words p show, else 0; `held p` is the number of keys; `room p` is the number of free
+-- slots, of which the next key needs `needed p`. For each operation: that the pool passes the audit afterwards (`…-passing`); what it
+-- answers, with what then holds (`…-says`); each code exactly when its cause holds (`…-codes`); the same by the answer, for code that
+-- matches on it (`…-done`, `…-refused`); and that a refusal changes no word, whatever the words (`…-kept`). Assumes nothing.
+use mathlib.Core.Path.{_≡_}
+use mathlib.Core.Logic.{_↔_}
+use mathlib.Core.Bool.{true}
+use mathlib.Core.List.{List}
+use Prim.Native.Nat.{ℕ, pred, _+_, _*_, _≤_, _<_}
+use Rattle.tree.specs.declared.Answer.the-variants.{Done, Refused}
+use Rattle.tree.specs.declared.Refusal.{Refusal}
+use Rattle.tree.specs.declared.Refusal.the-variants.{NoRoom}
+use Rattle.tree.specs.Codes.{codeOf, numberOf}
+use Rattle.tree.specs.State.{keyEnd}
+use Rattle.format.specs.Words.{slotsIn, lengthGood}
+use Rattle.pool.specs.Results.{auditCode, preparedWords}
+use Rattle.pool.proofs.Audits.{Words32}
+use Rattle.updates.specs.Updating.{searchAnswer, insertAnswer, insertWords, deleteAnswer, deleteWords}
+use Rattle.updates.proofs.Kept as kept
+use Rattle.steps.specs.Steps.{stepAnswer, stepWords, settleAnswer, settleWords}
+use Rattle.steps.proofs.StepShows as steps
+use Rattle.set.specs.Set.{Passing, member, held, room, needed, OneMore, SameSet, Prepared, Searched, Inserted, Deleted, Settles, KeyCodes, InsertCodes}
+use Rattle.set.specs.Balance.{boundNumber}
+use Rattle.set.proofs.Passing as passing
+use Rattle.set.proofs.Answers as answers
+use Rattle.set.proofs.Balancing as balancing
+
+-- The audit gives code 0 exactly to the pools that pass; every word of one is a 32-bit number.
+pub audit-passes : (p : List ℕ) → Words32 p → (auditCode p ≡ 0) ↔ Passing p
+audit-passes = passing.audit-passes
+
+pub passing-audited : {p : List ℕ} → Passing p → auditCode p ≡ 0
+passing-audited g = passing.passing-audited g
+
+pub passing-words : {p : List ℕ} → Passing p → Words32 p
+passing-words g = passing.passing-words g
+
+-- A set: no key is in it twice. k keys take 2k - 1 slots.
+pub member-once : {p : List ℕ} → Passing p → (x : ℕ) → member x p ≤ 1
+member-once g = answers.member-once g
+
+pub room-exact : {p : List ℕ} → Passing p → pred (2 * held p) + room p ≡ slotsIn p
+room-exact g = answers.room-exact g
+
+-- Prepare: no key, and C free slots.
+pub prepare-passing : (p : List ℕ) → lengthGood p ≡ true → Passing (preparedWords p)
+prepare-passing = passing.prepare-passing
+
+pub prepare-says : (p : List ℕ) → lengthGood p ≡ true → Prepared (preparedWords p) (slotsIn p)
+prepare-says = answers.prepare-says
+
+module _ {p : List ℕ} (g : Passing p) (x : ℕ) where
+  -- Search: done exactly when the key is in the set, else "key absent".
+  pub search-says : Searched x p (searchAnswer p x)
+  search-says = answers.search-says g x
+
+  pub search-codes : KeyCodes x p (codeOf (searchAnswer p x))
+  search-codes = answers.search-codes g x
+
+  pub search-done : {s : ℕ} → searchAnswer p x ≡ Done s → member x p ≡ 1
+  search-done = answers.search-done g x
+
+  pub search-refused : {f : Refusal} → searchAnswer p x ≡ Refused f → member x p ≡ 0
+  search-refused = answers.search-refused g x
+
+  -- Insert: "key present" exactly when the key is in the set; "fewer free slots than needed" exactly when it is not and there are; else
+  -- done, and the set has that key more, and no other.
+  pub insert-passing : x < keyEnd → Passing (insertWords p x)
+  insert-passing = passing.insert-passing g x
+
+  pub insert-says : x < keyEnd → Inserted x p (insertAnswer p x) (insertWords p x)
+  insert-says = answers.insert-says g x
+
+  pub insert-codes : x < keyEnd → InsertCodes x p (codeOf (insertAnswer p x))
+  insert-codes = answers.insert-codes g x
+
+  pub insert-done : {s : ℕ} → x < keyEnd → insertAnswer p x ≡ Done s → (member x p ≡ 0) × OneMore x p (insertWords p x)
+  insert-done = answers.insert-done g x
+
+  pub insert-refused : {f : Refusal} → x < keyEnd → member x p ≡ 0 → insertAnswer p x ≡ Refused f → (f ≡ NoRoom) × (room p < needed p)
+  insert-refused = answers.insert-refused g x
+
+  -- Delete: "key absent" exactly when the key is not in the set; else done, with the number of keys left, and the set had that key more,
+  -- and no other.
+  pub delete-passing : Passing (deleteWords p x)
+  delete-passing = passing.delete-passing g x
+
+  pub delete-says : Deleted x p (deleteAnswer p x) (deleteWords p x)
+  delete-says = answers.delete-says g x
+
+  pub delete-codes : KeyCodes x p (codeOf (deleteAnswer p x))
+  delete-codes = answers.delete-codes g x
+
+  pub delete-done : {n : ℕ} → deleteAnswer p x ≡ Done n → (n ≡ held (deleteWords p x)) × (member x p ≡ 1) × OneMore x (deleteWords p x) p
+  delete-done = answers.delete-done g x
+
+  pub delete-refused : {f : Refusal} → deleteAnswer p x ≡ Refused f → member x p ≡ 0
+  delete-refused = answers.delete-refused g x
+
+-- Settle: the set and its room stay. It is done with at most as many steps as the report's seventh number, or its budget is spent; that
+-- number is budget enough, and it falls by the steps taken.
+module _ {p : List ℕ} (g : Passing p) (budget : ℕ) where
+  pub settle-passing : Passing (settleWords p budget)
+  settle-passing = passing.settle-passing g budget
+
+  pub settle-same : SameSet p (settleWords p budget)
+  settle-same = answers.settle-same g budget
+
+  pub settle-says : Settles budget (boundNumber p) (settleAnswer p budget)
+  settle-says = balancing.settle-answers g budget
+
+  pub settle-enough : boundNumber p ≤ budget → codeOf (settleAnswer p budget) ≡ 0
+  settle-enough = balancing.settle-enough g budget
+
+  pub settle-falls : numberOf (settleAnswer p budget) + boundNumber (settleWords p budget) ≤ boundNumber p
+  settle-falls = balancing.settle-falls g budget
+
+-- Step: the set and its room stay.
+module _ {p : List ℕ} (g : Passing p) (s n : ℕ) where
+  pub step-passing : Passing (stepWords p s n)
+  step-passing = passing.step-passing g s n
+
+  pub step-same : SameSet p (stepWords p s n)
+  step-same = answers.step-same g s n
+
+-- "Codes 5 to 11 change no pool word", whatever the words.
+pub insert-kept : (p : List ℕ) (x : ℕ) (f : Refusal) → insertAnswer p x ≡ Refused f → insertWords p x ≡ p
+insert-kept = kept.insert-kept
+
+pub delete-kept : (p : List ℕ) (x : ℕ) (f : Refusal) → deleteAnswer p x ≡ Refused f → deleteWords p x ≡ p
+delete-kept = kept.delete-kept
+
+pub step-kept : (p : List ℕ) (s n : ℕ) (f : Refusal) → stepAnswer p s n ≡ Refused f → stepWords p s n ≡ p
+step-kept = steps.refused-keeps-words

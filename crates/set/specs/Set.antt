@@ -1,0 +1,89 @@
+-- The set of keys that a pool shows, and what its operations answer: the words of proofs/Promises.antt. They speak of a pool's words, and
+-- name no tree.
+use mathlib.Core.Path.{_≡_}
+use mathlib.Core.Logic.{_↔_}
+use mathlib.Core.List.{List}
+use lib.Dec.{eqb}
+use lib.ListN.{length}
+use Prim.Native.Nat.{ℕ, zero, suc, _+_, _≤_, _<_}
+use Rattle.tree.specs.declared.Answer.{Answer}
+use Rattle.tree.specs.declared.Answer.the-variants.{Done, Refused, Spent}
+use Rattle.tree.specs.declared.Refusal.the-variants.{KeyPresent, KeyAbsent, NoRoom}
+use Rattle.tree.specs.Codes.{code}
+use Rattle.tree.specs.Tree.{one, countIn}
+use Rattle.tree.specs.State.{State, keysOf, Sound}
+use Rattle.format.specs.Shows.{Shows}
+use Rattle.format.specs.Audit.{stateOf}
+
+-- The pool passes the audit: its words show a sound State. (`audit-passes`: exactly when the audit's code is 0.)
+abbrev pub Passing : List ℕ → Type 0
+Passing p = (S : State) × Sound S × Shows p S
+
+-- whether the key x is in the set: 1, or 0
+unfoldable pub member : ℕ → List ℕ → ℕ
+member x p = countIn x (keysOf ((stateOf p) .top))
+
+-- how many keys it has, and how many slots are free
+unfoldable pub held : List ℕ → ℕ
+held p = length (keysOf ((stateOf p) .top))
+
+unfoldable pub room : List ℕ → ℕ
+room p = length ((stateOf p) .free)
+
+-- 01, code 7: "fewer free slots than needed (1 if empty, else 2)"
+unfoldable pub neededFor : ℕ → ℕ
+neededFor zero = 1
+neededFor (suc n) = 2
+
+abbrev pub needed : List ℕ → ℕ
+needed p = neededFor (held p)
+
+-- q has the key x and every key that p has, and no other; what p needed for it is taken.
+pub record OneMore (x : ℕ) (p q : List ℕ) : Type 0 where
+  pub members : (y : ℕ) → member y q ≡ member y p + one (eqb y x)
+  pub keys-held : held q ≡ held p + 1
+  pub room-left : room q + needed p ≡ room p
+
+-- q has the keys that p has, and as much room.
+pub record SameSet (p q : List ℕ) : Type 0 where
+  pub members : (y : ℕ) → member y q ≡ member y p
+  pub keys-held : held q ≡ held p
+  pub room-left : room q ≡ room p
+
+-- What the operations answer, and the words q that they leave.
+-- Prepare: no key, and all C slots are free.
+pub record Prepared (p : List ℕ) (slots : ℕ) : Type 0 where
+  pub no-member : (x : ℕ) → member x p ≡ 0
+  pub none-held : held p ≡ 0
+  pub all-free : room p ≡ slots
+
+-- Search: done, or "key absent".
+pub data Searched (x : ℕ) (p : List ℕ) : Answer → Type 0 where
+  here : {s : ℕ} → member x p ≡ 1 → Searched x p (Done s)
+  nowhere : member x p ≡ 0 → Searched x p (Refused KeyAbsent)
+
+-- Insert: "key present"; "fewer free slots than needed"; or done, and then the set has that key more. A refusal leaves the words.
+pub data Inserted (x : ℕ) (p : List ℕ) : Answer → List ℕ → Type 0 where
+  key-present : member x p ≡ 1 → Inserted x p (Refused KeyPresent) p
+  room-lacking : member x p ≡ 0 → room p < needed p → Inserted x p (Refused NoRoom) p
+  inserted : {s : ℕ} {q : List ℕ} → member x p ≡ 0 → needed p ≤ room p → OneMore x p q → Inserted x p (Done s) q
+
+-- Delete: "key absent"; or done, with the "keys left", and the set had that key more.
+pub data Deleted (x : ℕ) (p : List ℕ) : Answer → List ℕ → Type 0 where
+  key-absent : member x p ≡ 0 → Deleted x p (Refused KeyAbsent) p
+  gone : {q : List ℕ} → member x p ≡ 1 → OneMore x q p → Deleted x p (Done (held q)) q
+
+-- Settle: done, with at most so many steps; or spent, with all of a budget that is less than so many.
+pub data Settles (budget most : ℕ) : Answer → Type 0 where
+  done : {n : ℕ} → n ≤ most → Settles budget most (Done n)
+  spent : budget < most → Settles budget most (Spent budget)
+
+-- The codes, "given exactly when": of search and delete, and of insert.
+pub record KeyCodes (x : ℕ) (p : List ℕ) (given : ℕ) : Type 0 where
+  pub done-when : (given ≡ 0) ↔ (member x p ≡ 1)
+  pub absent-when : (given ≡ code KeyAbsent) ↔ (member x p ≡ 0)
+
+pub record InsertCodes (x : ℕ) (p : List ℕ) (given : ℕ) : Type 0 where
+  pub done-when : (given ≡ 0) ↔ ((member x p ≡ 0) × (needed p ≤ room p))
+  pub present-when : (given ≡ code KeyPresent) ↔ (member x p ≡ 1)
+  pub lacking-when : (given ≡ code NoRoom) ↔ ((member x p ≡ 0) × (room p < needed p))
