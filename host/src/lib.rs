@@ -58,3 +58,7 @@ pub use pool::{Answers, Pool, Report};
 #[cfg(doctest)]
 #[doc = include_str!("../README.md")]
 struct Readme;
+
+#[cfg(doctest)]
+#[doc = include_str!("../../README.md")]
+struct RootReadme;

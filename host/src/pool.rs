@@ -11,7 +11,7 @@ const ANSWER_WORDS: usize = 2;
 /// A set of keys in lent words that passed the audit. While the pool lives nobody else can write the words, and every
 /// call keeps the audit rules, so they hold until it is dropped.
 ///
-/// Proved: `insert-shows`, `delete-shows`, `step-inorder`, `step-levels` (validity is kept).
+/// Proved: `passes-after`, `history-passing` (a call leaves a pool that passes the audit).
 pub struct Pool<'w> {
     words: &'w mut [u32],
 }
@@ -43,7 +43,7 @@ impl Report {
 
     /// Whether no step is allowed.
     ///
-    /// Proved: `none-when-red-black`, `step-until-red-black`.
+    /// Proved: `none-accepted`, `some-accepted`.
     pub fn red_black(&self) -> bool {
         self.conflicts == 0 && self.overweighted == 0
     }
@@ -51,7 +51,7 @@ impl Report {
     /// A budget with which settle ends, if one fits a command: no more than `bound` steps can be accepted before the
     /// next insert or delete.
     ///
-    /// Proved: `steps-bounded`.
+    /// Proved: `settle-enough`, `settle-falls`.
     pub fn settle_budget(&self) -> u32 {
         u32::try_from(self.bound).unwrap_or(u32::MAX)
     }
@@ -122,7 +122,7 @@ impl<'w> Pool<'w> {
     /// Over any runs since [`Pool::prepare`], a search tells exactly the keys that were inserted with
     /// [`Inserted::Told`] and not since deleted with [`Deleted::Cleared`].
     ///
-    /// Proved: `history`, `decides`.
+    /// Proved: `history`, `refused-keeps`, `batch-decides`.
     pub fn run<'b>(&mut self, batch: &'b Batch) -> Result<Answers<'b>, Refused> {
         let mut bytes = [0; Batch::LONGEST];
         let len = batch.write(&mut bytes);
@@ -134,7 +134,7 @@ impl<'w> Pool<'w> {
     /// Runs a batch that is bytes already, into lent answer words: two for each command, a code and a number; later
     /// words stay. A refusal changes no word of either.
     ///
-    /// Proved: `decides`.
+    /// Proved: `refused-keeps`, `later-words`, `batch-decides`.
     pub fn run_bytes(&mut self, bytes: &[u8], answers: &mut [u32]) -> Result<(), Refused> {
         let [code, number] = halves(raw::batch(self.words, bytes, answers));
         Refused::check(code, number)
@@ -175,7 +175,7 @@ impl<'w> Pool<'w> {
     /// Takes allowed steps, each at the lowest slot and there of the lowest kind, until none is left or `budget` are
     /// taken. Never changes which keys are in the set.
     ///
-    /// Proved: `settle-exact`, `steps-bounded`.
+    /// Proved: `settle-shows`, `settle-says`.
     pub fn settle(&mut self, budget: u32) -> Result<Settled, Refused> {
         let [code, number] = self.run_one(Command::Settle { budget })?;
         Ok(Settled::read(code, number))

@@ -44,7 +44,7 @@ pub fn report(pool: &[u32], index: u32) -> u64 {
 /// Runs the commands in `batch` and fills two answer words for each; words of `answers` after those stay. Gives 0; or,
 /// changing nothing, a refusal's code (1, 3, 4 or 2, tried in that order) times 4,294,967,296 plus its number.
 ///
-/// Proved: `decides`, `history`.
+/// Proved: `batch-decides`, `history`.
 pub fn batch(pool: &mut [u32], batch: &[u8], answers: &mut [u32]) -> u64 {
     // SAFETY: pointers and lengths are those of live slices; the two that are written are lent exclusively, so no two
     // overlap.

@@ -81,7 +81,7 @@ readFrom (suc n) bytes i = elim (leb (length bytes) i) [
 unfoldable pub readBatch : List ℕ → Batch
 readBatch bytes = readFrom mostCommands bytes 0
 
--- what a command does
+-- What a command does. (No command that is read has another operation than 1 to 5: `arguments` has none for it.)
 unfoldable pub operation : ℕ → ℕ → ℕ → State → Outcome
 operation zero a b S = refuses KeyAbsent S
 operation (suc zero) a b S = search a S
