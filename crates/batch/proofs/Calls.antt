@@ -1,17 +1,18 @@
 -- A call, test by test as the code makes them: what was found in the bytes, the room for the answers, the audit's code. Assumes nothing.
 use mathlib.Core.Path.{_≡_, refl, sym, _∙_}
 use mathlib.Core.Logic.{_≢_}
-use mathlib.Core.Bool.{Bool, true, false}
+use mathlib.Core.Bool.{Bool, true, false, not}
 use mathlib.Core.List.{List}
 use Prim.Native.Nat.{ℕ, _*_, _≤_, _<_, _^_}
 use native.Mathlib.Omega.{arith}
 use lib.ListN.{length, getD}
+use borrow.Author.Tests.{not-true, not-false}
 use Rattle.tree.specs.declared.Refusal.{Refusal}
-use Rattle.tree.specs.declared.Refusal.the-variants.{RulesBroken, BadCommand, FewAnswers}
+use Rattle.tree.specs.declared.Refusal.the-variants.{PoolLength, RulesBroken, BadCommand, FewAnswers}
 use Rattle.tree.specs.Codes.{code}
 use Rattle.format.specs.Words.{lengthGood}
 use Rattle.format.specs.Audit.{rulesHold}
-use Rattle.format.specs.Batch.{mostCommands, readBatch, Call, called, refused, batch}
+use Rattle.format.specs.Batch.{mostCommands, readBatch, called, refused, batch}
 use Rattle.format.proofs.Rules.{rules-show}
 use Rattle.pool.specs.Results.{auditCode}
 use Rattle.commands.specs.declared.Scanned.{Scanned}
@@ -19,13 +20,13 @@ use Rattle.commands.specs.declared.Scanned.the-variants.{Commands, BadAt}
 use Rattle.commands.specs.Scanned.{scanned}
 use Rattle.commands.proofs.Running.{scanned-commands, scanned-bad, batch-size, batch-bad}
 use Rattle.batch.specs.Calls.{Ready}
-use Rattle.batch.proofs.Cases.{call-bad, call-few, call-broken, call-runs}
+use Rattle.batch.proofs.Cases.{call-length, call-bad, call-few, call-broken, call-runs}
 
 -- "refuse the call [..] and change no word"
-pub refuses : (f : Refusal) {k : Call} {n a b : ℕ} {p out : List ℕ} → k ≡ refused f n p out → (a ≡ code f) × (b ≡ n)
-    → (a ≡ k .code) × ((b ≡ k .number) × ((p ≡ k .pool) × (out ≡ k .answers)))
+pub refuses : (f : Refusal) (p bytes out : List ℕ) {n a b : ℕ} → batch p bytes out ≡ refused f n p out → (a ≡ code f) × (b ≡ n)
+    → (a ≡ (batch p bytes out) .code) × ((b ≡ (batch p bytes out) .number) × ((p ≡ (batch p bytes out) .pool) × (out ≡ (batch p bytes out) .answers)))
 unfolding refused
-refuses f e h = rw e (h .0, (h .1, (refl, refl)))
+refuses f p bytes out e h = rw e (h .0, (h .1, (refl, refl)))
 
 -- the audit's code of words of a good length
 audit-broken : (p : List ℕ) → lengthGood p ≡ true → auditCode p ≢ 0 → rulesHold p ≡ false
@@ -57,26 +58,34 @@ module _ (bytes : List ℕ) (found : Scanned) (scan : found ≡ scanned (readBat
     pub finds-bad : (i : ℕ) → found ≡ BadAt i → batch p bytes out ≡ refused BadCommand i p out
     finds-bad i e = call-bad p bytes out good (scanned-bad (readBatch bytes) (sym scan ∙ e))
 
-    module _ (n : ℕ) (e : found ≡ Commands n) where
-      pub finds-few : length out < 2 * n → batch p bytes out ≡ refused FewAnswers 0 p out
-      finds-few h =
-          let x = scanned-commands (readBatch bytes) (sym scan ∙ e) in call-few p bytes out good (x .0) (x .1) (omega (arith, x .2))
-
-      pub finds-broken : 2 * n ≤ length out → auditCode p ≢ 0 → batch p bytes out ≡ refused RulesBroken 0 p out
-      finds-broken h a =
+    module _ (n : ℕ) (e : found ≡ Commands n) (room : 2 * n ≤ length out) (a : auditCode p ≡ 0) where
+      pub finds-ready : ((i : ℕ) → getD p i 0 < 2 ^ 32) → Ready p bytes out
+      finds-ready words =
           let x = scanned-commands (readBatch bytes) (sym scan ∙ e) in
-          call-broken p bytes out good (x .0) (x .1) (omega (arith, x .2)) (audit-broken p good a)
+          let s = rules-show p good (audit-kept p good a) words in
+          record { cs = x .0; read = x .1; room = omega (arith, x .2); sound = s .0; shows = s .1 }
 
-      module _ (room : 2 * n ≤ length out) (a : auditCode p ≡ 0) where
-        pub finds-ready : ((i : ℕ) → getD p i 0 < 2 ^ 32) → Ready p bytes out
-        finds-ready words =
-            let x = scanned-commands (readBatch bytes) (sym scan ∙ e) in
-            let s = rules-show p good (audit-kept p good a) words in
-            record { cs = x .0; read = x .1; room = omega (arith, x .2); sound = s .0; shows = s .1 }
+      -- the call gives 0 and number 0 itself
+      pub finds-none : ((batch p bytes out) .code ≡ 0) × ((batch p bytes out) .number ≡ 0)
+      unfolding called
+      finds-none =
+          let x = scanned-commands (readBatch bytes) (sym scan ∙ e) in
+          rw (call-runs p bytes out good (x .0) (x .1) (omega (arith, x .2)) (audit-kept p good a)) (refl, refl)
 
-        -- and the call gives 0 and number 0 itself
-        pub finds-none : ((batch p bytes out) .code ≡ 0) × ((batch p bytes out) .number ≡ 0)
-        unfolding called
-        finds-none =
-            let x = scanned-commands (readBatch bytes) (sym scan ∙ e) in
-            rw (call-runs p bytes out good (x .0) (x .1) (omega (arith, x .2)) (audit-kept p good a)) (refl, refl)
+-- The same from the tests as the code makes them, for a `search` that takes what stands before a return, wherever it stands: `long` is
+-- what the test of the length gave, `found` what was found in the bytes, `audited` what the audit gave.
+module _ (p bytes out : List ℕ) {long : Bool} (l : long ≡ lengthGood p) where
+  pub test-length : not long ≡ true → batch p bytes out ≡ refused PoolLength 0 p out
+  test-length t = call-length p bytes out (sym l ∙ not-true long t)
+
+  module _ (t : not long ≡ false) {found : Scanned} (scan : found ≡ scanned (readBatch bytes)) {n : ℕ} (e : found ≡ Commands n) where
+    pub test-few : length out < 2 * n → batch p bytes out ≡ refused FewAnswers 0 p out
+    test-few h =
+        let x = scanned-commands (readBatch bytes) (sym scan ∙ e) in
+        call-few p bytes out (sym l ∙ not-false long t) (x .0) (x .1) (omega (arith, x .2))
+
+    pub test-broken : 2 * n ≤ length out → {audited : ℕ} → audited ≡ auditCode p → audited ≢ 0 → batch p bytes out ≡ refused RulesBroken 0 p out
+    test-broken h a b =
+        let x = scanned-commands (readBatch bytes) (sym scan ∙ e) in
+        let good = sym l ∙ not-false long t in
+        call-broken p bytes out good (x .0) (x .1) (omega (arith, x .2)) (audit-broken p good (rw a at b))

@@ -3,11 +3,10 @@
 use mathlib.Core.Bool.{true}
 use mathlib.Core.Path.{_≡_, sym, _∙_}
 use native.Mathlib.Omega.{arith}
-use borrow.Author.Tests.{not-true, not-false}
+use borrow.Author.Tests.{not-false}
 use Rattle.tree.specs.declared.Refusal.the-variants.{PoolLength, RulesBroken, BadCommand, FewAnswers}
 use Rattle.format.specs.Words.{lengthGood}
-use Rattle.batch.proofs.Cases.{call-length}
-use Rattle.batch.proofs.Calls.{refuses, place-fits, count-fits, finds-bad, finds-few, finds-broken, finds-ready, finds-none}
+use Rattle.batch.proofs.Calls.{refuses, place-fits, count-fits, finds-bad, finds-ready, finds-none, test-length, test-few, test-broken}
 use borrow.Author.Needs.{needs}
 use Rattle.batch.proofs.batch.Statement.{statement}
 use Rattle.batch.proofs.batch.Tie as tie
@@ -27,8 +26,15 @@ refuse-requires c κs = search needs
 same-length : tie.Need-same-length
 same-length c = search needs
 
+-- Codes 1, 4 and 2, each from the tests before it.
 returns : tie.Need-returns
-returns c = refuses PoolLength (call-length _ _ _ (sym (c .before .before .length-good .ensures) ∙ not-true _ (c .before .if1 .taken))) (c .refuse .ensures)
+returns c = refuses PoolLength _ _ _ {n = 0} (search test-length) (search needs)
+
+returns-2 : tie.Need-returns-2
+returns-2 c = refuses FewAnswers _ _ _ {n = 0} (search test-few) (search needs)
+
+returns-3 : tie.Need-returns-3
+returns-3 c = refuses RulesBroken _ _ _ {n = 0} (search test-broken) (search needs)
 
 scan-requires : tie.Need-scan-requires
 scan-requires c κs = search needs
@@ -54,12 +60,6 @@ refuse-requires-3 c κs = search needs
 same-length-2 : tie.Need-same-length-2
 same-length-2 c = search needs
 
-returns-2 : tie.Need-returns-2
-returns-2 c =
-    let s = c .before .before .before .before .before in
-    let few = finds-few _ _ (s .scan .ensures) _ _ (good (s .before)) _ (c .before .before .before .found2 .given .1) (c .before .if2 .taken) in
-    refuses FewAnswers few (c .refuse3 .ensures)
-
 audit-requires : tie.Need-audit-requires
 audit-requires c κs = search needs
 
@@ -68,14 +68,6 @@ refuse-requires-4 c κs = search needs
 
 same-length-3 : tie.Need-same-length-3
 same-length-3 c = search needs
-
-returns-3 : tie.Need-returns-3
-returns-3 c =
-    let r = c .before .before .before .before in
-    let s = r .before .before .before .before in
-    let audited = rw (c .before .before .audit .ensures) at (c .before .if3 .taken) in
-    let broken = finds-broken _ _ (s .scan .ensures) _ _ (good (s .before)) _ (r .before .before .found2 .given .1) (r .if2 .left) audited in
-    refuses RulesBroken broken (c .refuse4 .ensures)
 
 run-requires : tie.Need-run-requires
 run-requires c κs =
@@ -93,7 +85,7 @@ same-length-4 c = search needs
 returns-4 : tie.Need-returns-4
 returns-4 c =
     let s = c .before .before .before .before in
-    refuses BadCommand (finds-bad _ _ (s .scan .ensures) _ _ (good (s .before)) _ (c .before .before .found .given .1)) (c .refuse2 .ensures)
+    refuses BadCommand _ _ _ (finds-bad _ _ (s .scan .ensures) _ _ (good (s .before)) _ (c .before .before .found .given .1)) (c .refuse2 .ensures)
 
 same-length-5 : tie.Need-same-length-5
 same-length-5 c = search needs
