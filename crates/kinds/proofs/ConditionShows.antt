@@ -6,19 +6,16 @@
 use mathlib.Core.Path.{_≡_, refl, sym, ap, _∙_}
 use mathlib.Core.Bool.{Bool, true, false, not, _&&_, _||_, false≢true, and-false}
 use mathlib.Core.List.{List}
-use native.Mathlib.Omega.{arith}
-use Prim.Native.Nat.{ℕ, zero, suc, _≤_}
+use Prim.Native.Nat.{ℕ}
 use Rattle.tree.specs.declared.Kind.{Kind}
 use Rattle.tree.specs.declared.Kind.the-variants.{Blacken, SingleLeft, SingleRight, DoubleLeft, DoubleRight, Lighten, LightenLeft, LightenRight}
-use Rattle.tree.specs.Tree.{Tree, leaf, node, slotOf, isLeaf, red, overweighted, count, Chromatic}
+use Rattle.tree.specs.Tree.{Tree, node, slotOf, isLeaf, red, overweighted, Chromatic}
 use Rattle.tree.specs.Kinds.{leftRed, rightRed, leftNotRed, rightNotRed, condition, conditionAt}
 use Rattle.tree.specs.State.{State, full, Sound}
 use Rattle.tree.proofs.Steps.{innerAt}
 use Rattle.tree.proofs.StepState.{tree-good, tree-once}
-use Rattle.format.specs.Words.{slotAt}
 use Rattle.format.specs.Shows.{Holds, holds-leaf, holds-node, HoldsTop, Shows}
-use Rattle.format.proofs.Frame.{rootSlot, holds-root}
-use Rattle.format.proofs.Replace.{In, top, in-left, in-right, in-holds, Place, find-in, holdsAt-in}
+use Rattle.format.proofs.Replace.{In, top, in-left, in-right, in-holds, find-in, holdsAt-in}
 use Rattle.kinds.specs.declared.Around.{Around}
 use Rattle.kinds.specs.Around.{aroundAt, mirrored}
 use Rattle.kinds.specs.Conditions.{fits, blackenFits, singleLeftFits, doubleLeftFits, lightenFits, lightenLeftFits}

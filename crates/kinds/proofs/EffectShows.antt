@@ -13,10 +13,10 @@ use native.Mathlib.Nat.{mod-eq-of-lt}
 use lib.Dec.{eqb}
 use lib.ListN.{length}
 use borrow.Author.Tests.{eq-eqb, ne-eqb}
-use Prim.Native.Nat.{ℕ, zero, suc, pred, _+_, _%_, _^_, _≤_, _<_}
+use Prim.Native.Nat.{ℕ, suc, pred, _+_, _^_, _≤_, _<_}
 use Rattle.tree.specs.declared.Kind.{Kind}
 use Rattle.tree.specs.declared.Kind.the-variants.{Blacken, SingleLeft, SingleRight, DoubleLeft, DoubleRight, Lighten, LightenLeft, LightenRight}
-use Rattle.tree.specs.Tree.{Tree, leaf, node, slotOf, size, one, count, Chromatic, level}
+use Rattle.tree.specs.Tree.{Tree, node, slotOf, size, count}
 use Rattle.tree.specs.Kinds.{conditionAt, stepped}
 use Rattle.tree.specs.State.{State, state, full, GoodTop, Sound}
 use Rattle.tree.proofs.Relation.{Local, blacken, single-left, single-right, double-left, double-right, lighten-left-child, lighten-right-child, lighten-left, lighten-right, Step, here, in-left, in-right}
@@ -27,17 +27,17 @@ use Rattle.format.specs.declared.Slot.{Slot}
 use Rattle.format.specs.Words.{slot, slotAt, putSlot, headerOf, rootOf, spareOf}
 use Rattle.format.specs.Shows.{Holds, holds-node, HoldsTop, Shows}
 use Rattle.format.proofs.Frame.{rootSlot, holds-root}
-use Rattle.tree.proofs.Counts.{one-same, not-same, count-root}
+use Rattle.tree.proofs.Counts.{not-same, count-root}
 use Rattle.format.proofs.Replace.{In, top, in-left as below-left, in-right as below-right, in-holds, in-count, reweighed}
 use Rattle.format.proofs.Shown.{tree-once, shows-root, shows-replaced}
 use Rattle.format.proofs.Cover.{tree-light}
 use Rattle.kinds.specs.Around.{aroundAt, mirrored}
-use Rattle.kinds.specs.Effects.{to, putWrite, putChange, applied, effect, fallen, risen, blackened, singleLeft, doubleLeft, lightened, lightenLeft, mirroredChange}
-use Rattle.kinds.proofs.Seen.{weight-root, around, around-is}
-use Rattle.kinds.proofs.Written.{put-to, put-nowhere, Wrote, wrote-length, wrote-header, wrote-other, Makes, weighed, turned-left, turned-right, doubled-left, doubled-right, lightened-left, lightened-right}
+use Rattle.kinds.specs.Effects.{putChange, applied, effect, fallen, risen, blackened, singleLeft, doubleLeft, lightened, lightenLeft, mirroredChange}
+use Rattle.kinds.proofs.Seen.{weight-root, around-is}
+use Rattle.kinds.proofs.Written.{put-to, put-nowhere, wrote-length, wrote-header, wrote-other, Makes, weighed, turned-left, turned-right, doubled-left, doubled-right, lightened-left, lightened-right}
 
 -- the edge to v after a step that makes its weight q: at the root it keeps p
-pub edgeAfter : Bool → ℕ → ℕ → ℕ
+unfoldable pub edgeAfter : Bool → ℕ → ℕ → ℕ
 edgeAfter true p q = p
 edgeAfter false p q = q
 
@@ -46,7 +46,7 @@ unfolding edgeAfter
 edge-same true w = refl
 edge-same false w = refl
 
--- What each kind writes, in words that hold the tree.
+-- What each kind writes, in words that hold the tree: one law a form.
 module _ {p : List ℕ} (root : Bool) where
   blacken-words : {w v i wl wr : ℕ} {l r : Tree} → Holds p w (node v i wl l wr r)
       → applied p v Blacken root (aroundAt p v)

@@ -12,18 +12,17 @@ use native.Mathlib.Omega.{arith}
 use native.Mathlib.Decide.{decLe}
 use lib.Dec.{leb}
 use borrow.Author.Tests.{le-leb, lt-leb}
-use Prim.Native.Nat.{ℕ, zero, suc, _+_, _≤_, _<_}
+use Prim.Native.Nat.{ℕ, zero, suc, _+_, _≤_}
 use Rattle.tree.specs.declared.Kind.{Kind}
 use Rattle.tree.specs.Codes.{kinds}
-use Rattle.tree.specs.Tree.{Tree, slotOf, isLeaf, count, countIn}
-use Rattle.tree.specs.Kinds.{condition, conditionAt, atLimit}
+use Rattle.tree.specs.Tree.{Tree, isLeaf, count, countIn}
+use Rattle.tree.specs.Kinds.{conditionAt, atLimit}
 use Rattle.tree.specs.State.{State, empty, full, countTop, Sound}
 use Rattle.tree.specs.Settle.{allowed, lowestKind, lowestStep}
 use Rattle.tree.proofs.Steps.{step-inner, made, innerAt as innerIn}
 use Rattle.tree.proofs.StepState.{tree-count, tree-slot, tree-good, tree-once}
-use Rattle.format.specs.declared.Slot.{Slot}
 use Rattle.format.specs.Words.{slotAt, headerOf}
-use Rattle.format.specs.Shows.{Holds, Chain, chain-end, chain-more, Shows}
+use Rattle.format.specs.Shows.{Chain, chain-end, chain-more, Shows}
 use Rattle.tree.proofs.Counts.{in-chain}
 use Rattle.format.proofs.Frame.{rootSlot, holds-root}
 use Rattle.format.proofs.Replace.{in-holds, find-slot, holdsAt-none, holdsAt-in}

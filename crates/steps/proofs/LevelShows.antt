@@ -2,22 +2,21 @@
 -- kind 1 is refused for it where the definition says (`limit-shows`). C is the State's (`last-slot-is`).
 -- Why: the walk goes down the left edges, which are fewer than the tree's nodes, and those are at most C; and the sum stays at most 255,
 -- so it does not wrap. Assumes nothing.
-use mathlib.Core.Path.{_≡_, refl, sym, ap, _∙_}
-use mathlib.Core.Bool.{Bool, true, false, not}
+use mathlib.Core.Path.{_≡_, refl, ap, _∙_}
+use mathlib.Core.Bool.{not}
 use mathlib.Core.List.{List}
 use native.Mathlib.Omega.{arith}
 use native.Mathlib.Nat.{mod-eq-of-lt}
 use lib.ListN.{length}
 use borrow.Author.Tests.{ne-eqb}
-use Prim.Native.Nat.{ℕ, zero, suc, min, _+_, _%_, _^_, _≤_, _<_}
+use Prim.Native.Nat.{ℕ, zero, suc, _+_, _^_, _≤_, _<_}
 use Rattle.tree.specs.declared.Kind.{Kind}
 use Rattle.tree.specs.declared.Kind.the-variants.{Blacken, SingleLeft, SingleRight, DoubleLeft, DoubleRight, Lighten, LightenLeft, LightenRight}
-use Rattle.tree.specs.Codes.{mostSlots}
 use Rattle.tree.specs.Tree.{Tree, slotOf, isLeaf, size, level}
 use Rattle.tree.specs.Kinds.{atLimit}
-use Rattle.tree.specs.State.{State, full, nodes, GoodTop, Sound}
+use Rattle.tree.specs.State.{State, full, nodes, Sound}
 use Rattle.tree.proofs.StepState.{tree-good}
-use Rattle.format.specs.Words.{slotAt, slotsIn, headerOf, rootOf}
+use Rattle.format.specs.Words.{headerOf, rootOf}
 use Rattle.format.specs.Shows.{Holds, holds-leaf, holds-node, HoldsTop, Shows}
 use Rattle.format.proofs.Frame.{rootSlot, holds-root}
 use Rattle.format.proofs.Shown.{shows-root, shows-length-good}

@@ -1,6 +1,6 @@
 -- The command step on words, case by case, in the order of its refusals (`run-8` to `run-done`); and a refused step changes no word,
 -- whatever the words are (`refused-keeps-words`). Assumes nothing.
-use mathlib.Core.Path.{_≡_, refl, sym, ap, _∙_}
+use mathlib.Core.Path.{_≡_, sym, ap, _∙_}
 use mathlib.Core.Bool.{Bool, true, false, not}
 use mathlib.Core.List.{List}
 use lib.Dec.{eqb}
@@ -9,9 +9,8 @@ use Prim.Native.Nat.{ℕ}
 use Rattle.tree.specs.declared.Kind.{Kind}
 use Rattle.tree.specs.declared.Named.{Named}
 use Rattle.tree.specs.declared.Named.the-variants.{Known, Unknown}
-use Rattle.tree.specs.declared.Refusal.{Refusal}
 use Rattle.tree.specs.declared.Refusal.the-variants.{NoInnerNode, NoSuchKind, ConditionFalse, LevelLimit}
-use Rattle.tree.specs.declared.Answer.the-variants.{Done, Refused}
+use Rattle.tree.specs.declared.Answer.the-variants.{Done}
 use Rattle.tree.specs.Codes.{kindNumber, named}
 use Rattle.tree.proofs.KindNumbers.{named-number}
 use Rattle.format.specs.declared.Header.{Header}

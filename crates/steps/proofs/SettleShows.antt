@@ -4,14 +4,12 @@
 -- the lowest (AllowedShows.antt), its effect is the definition's (EffectShows.antt of crate kinds), and an allowed step keeps the State
 -- sound (StepState.antt of crate tree). By induction on the budget. Assumes nothing.
 use mathlib.Core.Path.{_≡_, refl, sym, ap, _∙_}
-use mathlib.Core.Bool.{Bool, true, false, _&&_}
+use mathlib.Core.Bool.{false}
 use mathlib.Core.List.{List, [], _∷_}
 use mathlib.Core.Option.{Option, none, some}
-use lib.Dec.{eqb}
 use lib.ListN.{length}
 use Prim.Native.Nat.{ℕ, zero, suc}
 use Rattle.tree.specs.declared.Kind.{Kind}
-use Rattle.tree.specs.declared.Answer.{Answer}
 use Rattle.tree.specs.declared.Answer.the-variants.{Done, Spent}
 use Rattle.tree.specs.Codes.{kinds}
 use Rattle.tree.specs.Tree.{Tree, slotOf}
@@ -24,12 +22,9 @@ use Rattle.tree.proofs.StepState.{allowed-exactly, tree-good, tree-once, sound-
 use Rattle.tree.proofs.Settling.{lowest-is-allowed, settle-after, settle-answer, settle-empty}
 use Rattle.format.specs.Words.{headerOf}
 use Rattle.format.specs.Shows.{Shows}
-use Rattle.kinds.specs.Around.{aroundAt}
-use Rattle.kinds.specs.Effects.{applied}
 use Rattle.kinds.proofs.EffectShows.{effect-shows}
-use Rattle.steps.specs.declared.Found.{Found}
 use Rattle.steps.specs.declared.Found.the-variants.{At, Nothing}
-use Rattle.steps.specs.Steps.{innerAt, allowedWords, takenWords, firstKind, firstFrom, firstAllowed, lastSlot, nextPool, poolsAfter, lastPool, settled, settleRun, settleAnswer, settleWords}
+use Rattle.steps.specs.Steps.{allowedWords, takenWords, firstFrom, firstAllowed, lastSlot, nextPool, poolsAfter, lastPool, settled, settleRun, settleAnswer, settleWords}
 use Rattle.steps.proofs.LevelShows.{root-is}
 use Rattle.steps.proofs.Scan.{all-false}
 use Rattle.steps.proofs.AllowedShows.{inner-empty, foundOf, first-shows}

@@ -3,8 +3,8 @@
 -- Why: both go by the same questions in the same order, and each question has the same answer: whether the slot is an inner node
 -- (AllowedShows.antt), whether the condition holds (ConditionShows.antt of crate kinds), whether the level is at its limit
 -- (LevelShows.antt); and an accepted step has the same effect (EffectShows.antt of crate kinds). Assumes nothing.
-use mathlib.Core.Path.{_≡_, refl, sym, ap, _∙_}
-use mathlib.Core.Bool.{Bool, true, false, not}
+use mathlib.Core.Path.{_≡_, refl, sym, _∙_}
+use mathlib.Core.Bool.{Bool, true, false}
 use mathlib.Core.List.{List}
 use native.Mathlib.Omega.{arith}
 use Prim.Native.Nat.{ℕ}
@@ -12,14 +12,13 @@ use Rattle.tree.specs.declared.Kind.{Kind}
 use Rattle.tree.specs.declared.Named.{Named}
 use Rattle.tree.specs.declared.Named.the-variants.{Known, Unknown}
 use Rattle.tree.specs.declared.Refusal.{Refusal}
-use Rattle.tree.specs.declared.Refusal.the-variants.{NoInnerNode, NoSuchKind, ConditionFalse, LevelLimit}
+use Rattle.tree.specs.declared.Refusal.the-variants.{NoInnerNode, ConditionFalse, LevelLimit}
 use Rattle.tree.specs.declared.Answer.the-variants.{Done, Refused}
 use Rattle.tree.specs.Codes.{kindNumber, named}
 use Rattle.tree.specs.Tree.{Tree}
-use Rattle.tree.specs.Kinds.{conditionAt, stepped}
-use Rattle.tree.specs.State.{State, state, full, Outcome, Sound, noInner, step}
+use Rattle.tree.specs.State.{State, full, Outcome, Sound, noInner, step}
 use Rattle.tree.proofs.Steps.{innerAt as innerIn}
-use Rattle.tree.proofs.StepState.{no-inner-exactly, allowed-exactly, Cause, in-empty, no-inner, no-kind, condition-false, at-limit, Stepping, refused, taken, stepping}
+use Rattle.tree.proofs.StepState.{no-inner-exactly, allowed-exactly, in-empty, no-inner, no-kind, condition-false, at-limit, Stepping, refused, taken, stepping}
 use Rattle.format.specs.Words.{headerOf}
 use Rattle.format.specs.Shows.{Shows}
 use Rattle.kinds.specs.Around.{aroundAt}
