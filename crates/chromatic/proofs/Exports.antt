@@ -18,7 +18,7 @@ use Rattle.report.specs.Report.{figuresOf, reportOf}
 use Rattle.report.proofs.Exact.{number-refused}
 use Rattle.report.proofs.Reports.{figure-none}
 use Rattle.batch.proofs.Cases.{call-length, call-bad, call-few, call-broken, call-runs}
-use Rattle.chromatic.specs.Exports.{numberAt, returned}
+use Rattle.chromatic.specs.Exports.{numberAt, codeUnit, returned}
 
 -- A call's number is 0, or a byte's place in a batch of at most 2,816 bytes.
 module _ (p bytes out : List ℕ) where
@@ -45,16 +45,16 @@ module _ (p bytes out : List ℕ) where
       go false e = rw (call-length p bytes out e) (omega arith)
 
 -- a code and a number in one word
-pub one-word : (k : Call) {a b : ℕ} → a ≡ k .code → b ≡ k .number → a * 4294967296 + b ≡ returned k
+pub one-word : (k : Call) {a b : ℕ} → a ≡ k .code → b ≡ k .number → a * codeUnit + b ≡ returned k
 unfolding returned
 one-word k e f = rw (e, f)
 
-pub returned-parts : (k : Call) → k .number < 4294967296 → (returned k / 4294967296 ≡ k .code) × (returned k % 4294967296 ≡ k .number)
+pub returned-parts : (k : Call) → k .number < codeUnit → (returned k / codeUnit ≡ k .code) × (returned k % codeUnit ≡ k .number)
 unfolding returned
 returned-parts k h = (omega arith, omega arith)
 
 -- The word says the code and the number.
-pub returned-once : (j k : Call) → j .number < 4294967296 → k .number < 4294967296 → returned j ≡ returned k
+pub returned-once : (j k : Call) → j .number < codeUnit → k .number < codeUnit → returned j ≡ returned k
     → (j .code ≡ k .code) × (j .number ≡ k .number)
 unfolding returned
 returned-once j k h i e = (omega arith, omega arith)

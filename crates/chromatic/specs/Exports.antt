@@ -9,5 +9,8 @@ unfoldable pub numberAt : List ℕ → ℕ → ℕ
 numberAt p index = figureAt index (figuresOf (reportOf p))
 
 -- "The exported batch returns its code times 4,294,967,296 plus its number."
+abbrev pub codeUnit : ℕ
+codeUnit = 4294967296
+
 unfoldable pub returned : Call → ℕ
-returned k = k .code * 4294967296 + k .number
+returned k = k .code * codeUnit + k .number
