@@ -68,7 +68,8 @@ operation-sound (suc zero) a b S g h = search-sound a S g
 operation-sound (suc (suc zero)) a b S g h = insert-sound a S g h
 operation-sound (suc (suc (suc zero))) a b S g h = delete-sound a S g
 operation-sound (suc (suc (suc (suc zero)))) a b S g h = step-sound-state a b S g
-operation-sound (suc (suc (suc (suc (suc n))))) a b S g h = settle-sound-state S a g
+operation-sound (suc (suc (suc (suc (suc zero))))) a b S g h = settle-sound-state S a g
+operation-sound (suc (suc (suc (suc (suc (suc n)))))) a b S g h = g
 
 pub perform-sound : (c : Command) (S : State) → Sound S → c .first < keyEnd → Sound ((perform c S) .after)
 unfolding perform

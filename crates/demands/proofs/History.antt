@@ -31,7 +31,7 @@ use Rattle.set.proofs.Passing.{passing-state}
 use Rattle.set.proofs.Promises.{prepare-passing, prepare-says, search-codes}
 use Rattle.demands.specs.Calls.{searchNumber, insertNumber, deleteNumber, Entry, entries, logOf, Bytes, Calls, no-call, then-call, tells, toldFrom, told, InsertedSince}
 use Rattle.demands.proofs.Told.{other-operation, other-key, other-code, tells-insert, tells-delete, told-append, told-exactly}
-use Rattle.demands.proofs.Runs.{Performs, as-none, as-search, as-insert, as-delete, as-step, as-settle, performs, AllSmall, small-append, perform-sound, run-sound, entry, entriesOf}
+use Rattle.demands.proofs.Runs.{Performs, as-none, as-search, as-insert, as-delete, as-step, as-settle, as-other, performs, AllSmall, small-append, perform-sound, run-sound, entry, entriesOf}
 use Rattle.demands.proofs.Called.{Result, call-kept, call-did, call-result, call-ran, calls-passing}
 use Rattle.demands.proofs.Ends.{command-words}
 
@@ -65,6 +65,7 @@ module _ (x : ℕ) (c : Command) (S : State) (sound : Sound S) where
       go (as-delete e) = delete-told e (delete-says (c .first) S sound)
       go (as-step e) = same-keys ((step (c .first) (c .second) S) .after) (step-keeps-keys (c .first) (c .second) S sound) ∙ sym (other-operation x _ (isIn x S) (λ z. omega arith) (λ z. omega arith))
       go (as-settle e) = same-keys ((settle (c .first) S) .after) (settle-keeps-keys S (c .first) sound) ∙ sym (other-operation x _ (isIn x S) (λ z. omega arith) (λ z. omega arith))
+      go (as-other e) = sym (other-operation x _ (isIn x S) (λ z. omega arith) (λ z. omega arith))
 
 -- a search command searches
 searches : {c : Command} {S : State} {o : Outcome} → Performs c S o → c .operation ≡ searchNumber → codeOf (o .answer) ≡ codeOf ((search (c .first) S) .answer)
@@ -74,6 +75,7 @@ searches (as-insert e) op = absurd (omega arith)
 searches (as-delete e) op = absurd (omega arith)
 searches (as-step e) op = absurd (omega arith)
 searches (as-settle e) op = absurd (omega arith)
+searches (as-other e) op = absurd (omega arith)
 
 -- All commands of a call.
 run-told : (x : ℕ) (cs : List Command) (S : State) → AllSmall cs → Sound S → isIn x (runAll cs S) ≡ toldFrom x (isIn x S) (entriesOf cs S)

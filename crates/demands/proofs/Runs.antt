@@ -37,7 +37,8 @@ pub data Performs (c : Command) (S : State) : Outcome → Type 0 where
   as-insert : c .operation ≡ insertNumber → Performs c S (insert (c .first) S)
   as-delete : c .operation ≡ deleteNumber → Performs c S (delete (c .first) S)
   as-step : c .operation ≡ stepNumber → Performs c S (step (c .first) (c .second) S)
-  as-settle : settleNumber ≤ c .operation → Performs c S (settle (c .first) S)
+  as-settle : c .operation ≡ settleNumber → Performs c S (settle (c .first) S)
+  as-other : settleNumber < c .operation → Performs c S (refuses KeyAbsent S)
 
 pub performs : (c : Command) (S : State) → Performs c S (perform c S)
 unfolding perform operation
@@ -49,7 +50,8 @@ performs c S = go (c .operation) refl
     go (suc (suc zero)) e = as-insert e
     go (suc (suc (suc zero))) e = as-delete e
     go (suc (suc (suc (suc zero)))) e = as-step e
-    go (suc (suc (suc (suc (suc n))))) e = as-settle (omega arith)
+    go (suc (suc (suc (suc (suc zero))))) e = as-settle e
+    go (suc (suc (suc (suc (suc (suc n)))))) e = as-other (omega arith)
 
 -- Commands read from bytes: "at most 4,294,967,295".
 unfoldable pub AllSmall : List Command → Type 0
@@ -85,6 +87,7 @@ perform-sound c S h g = go (performs c S)
     go (as-delete e) = delete-sound (c .first) S g
     go (as-step e) = step-sound-state (c .first) (c .second) S g
     go (as-settle e) = settle-sound-state S (c .first) g
+    go (as-other e) = g
 
 pub run-sound : (cs : List Command) (S : State) → AllSmall cs → Sound S → Sound (runAll cs S)
 unfolding runAll AllSmall
@@ -110,6 +113,7 @@ perform-kept c S g = go (performs c S)
     go (as-delete e) l h = delete-kept (c .first) S g (λ z. omega arith)
     go (as-step e) l h = step-kept (stepping (c .first) (c .second) S) l
     go (as-settle e) l h = absurd (settle-not (settle-ended S (c .first)) l h)
+    go (as-other e) l h = refl
 
 pub refused-number : (a : Answer) → 5 ≤ codeOf a → codeOf a ≤ 11 → numberOf a ≡ 0
 refused-number (Done n) l h = absurd (omega arith)

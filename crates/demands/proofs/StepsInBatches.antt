@@ -28,7 +28,7 @@ use Rattle.set.specs.Balance.{boundNumber}
 use Rattle.set.proofs.Passing.{passing-state}
 use Rattle.set.proofs.Balancing.{bound-shown, settle-state-falls}
 use Rattle.demands.specs.Calls.{stepNumber, settleNumber, Entry, logOf, Bytes, Calls, no-call, then-call, stepsOf, stepsIn, NoUpdate, NoUpdates}
-use Rattle.demands.proofs.Runs.{Performs, as-none, as-search, as-insert, as-delete, as-step, as-settle, performs, AllSmall, perform-sound, entry, entriesOf}
+use Rattle.demands.proofs.Runs.{Performs, as-none, as-search, as-insert, as-delete, as-step, as-settle, as-other, performs, AllSmall, perform-sound, entry, entriesOf}
 use Rattle.demands.proofs.Called.{Result, call-kept, call-did, call-result, calls-passing}
 
 -- The steps of an entry: none of another operation, at most one of a step, and of a settle at most its number.
@@ -96,6 +96,7 @@ module _ (c : Command) (S : State) (sound : Sound S) where
       go (as-insert e) u = falls-kept (insert (c .first) S) (λ z. omega arith) (λ z. omega arith) (insert-kept (c .first) S sound (λ z. u .no-insert z e))
       go (as-delete e) u = falls-kept (delete (c .first) S) (λ z. omega arith) (λ z. omega arith) (delete-kept (c .first) S sound (λ z. u .no-delete z e))
       go (as-step e) u = step-falls e (stepping (c .first) (c .second) S) refl
+      go (as-other e) u = falls-kept (refuses KeyAbsent S) (λ z. omega arith) (λ z. omega arith) refl
       go (as-settle e) u =
           omega (arith, steps-settle (entry c ((settle (c .first) S) .answer)) (λ z. omega arith), settle-state-falls S (c .first) sound)
 

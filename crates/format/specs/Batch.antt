@@ -81,14 +81,15 @@ readFrom (suc n) bytes i = elim (leb (length bytes) i) [
 unfoldable pub readBatch : List ℕ → Batch
 readBatch bytes = readFrom mostCommands bytes 0
 
--- What a command does. (No command that is read has another operation than 1 to 5: `arguments` has none for it.)
+-- What a command does. (No command that is read has another operation than 1 to 5, since `arguments` has none for it.)
 unfoldable pub operation : ℕ → ℕ → ℕ → State → Outcome
 operation zero a b S = refuses KeyAbsent S
 operation (suc zero) a b S = search a S
 operation (suc (suc zero)) a b S = insert a S
 operation (suc (suc (suc zero))) a b S = delete a S
 operation (suc (suc (suc (suc zero)))) a b S = step a b S
-operation (suc (suc (suc (suc (suc n))))) a b S = settle a S
+operation (suc (suc (suc (suc (suc zero))))) a b S = settle a S
+operation (suc (suc (suc (suc (suc (suc n)))))) a b S = refuses KeyAbsent S
 
 unfoldable pub perform : Command → State → Outcome
 perform c S = operation (c .operation) (c .first) (c .second) S
