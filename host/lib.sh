@@ -112,11 +112,11 @@ EOF
 debs() { # FOLDER PACKAGE...
     into=$1
     shift
-    (cd "$into/debs" && rm -f ./*.deb && apt-get -q -q -o APT::Sandbox::User=root download "$@" && for d in ./*.deb; do dpkg-deb -x "$d" "$into/root"; done) >"$into/log" 2>&1
+    (cd "$into/debs" && rm -f ./*.deb && apt-get -q -q -o APT::Sandbox::User=root download "$@" && for d in ./*.deb; do dpkg-deb -x "$d" "$into/unpacked"; done) >"$into/log" 2>&1
 }
 
 apt_lists() { # FOLDER
-    mkdir -p "$1/lists/partial" "$1/cache/archives/partial" "$1/debs" "$1/root"
+    mkdir -p "$1/lists/partial" "$1/cache/archives/partial" "$1/debs" "$1/unpacked"
     printf 'APT::Architectures { "%s"; "amd64"; };\nDir::State::lists "%s/lists";\nDir::Cache "%s/cache";\n' "$(dpkg --print-architecture)" "$1" "$1" >"$1/apt.conf"
     export APT_CONFIG="$1/apt.conf"
     [ -f "$1/lists/done" ] && return
@@ -151,9 +151,9 @@ fetch_x86_rust() {
     say "fetching once: $found"
     # shellcheck disable=SC2086
     debs "$x86" $found || fail "the packages cannot be fetched: $found" || return 1
-    if ! LD_LIBRARY_PATH=$libs "$x86/root/usr/bin/rustc" --version >/dev/null 2>&1; then
+    if ! LD_LIBRARY_PATH=$libs "$x86/unpacked/usr/bin/rustc" --version >/dev/null 2>&1; then
         debs "$x86" libedit2 libbsd0 libmd0 libz3-4 libxml2 libicu72 libffi8 libzstd1 libtinfo6 libstdc++6 || fail "the libraries of $llvm cannot be fetched" || return 1
-        LD_LIBRARY_PATH=$libs "$x86/root/usr/bin/rustc" --version >/dev/null 2>&1 || fail "Debian's rustc does not run here" || return 1
+        LD_LIBRARY_PATH=$libs "$x86/unpacked/usr/bin/rustc" --version >/dev/null 2>&1 || fail "Debian's rustc does not run here" || return 1
     fi
     rm -rf "$x86/debs" "$x86/cache"
 }
@@ -171,7 +171,7 @@ fit_x86_rust() {
     "$tools/bin/clang" --target=x86_64-unknown-linux-gnu -O2 -fPIC -c "$x86/lib/guard.c" -o "$x86/lib/guard.o"
     cat >"$x86/bin/rustc" <<EOF
 #!/bin/sh
-LD_LIBRARY_PATH=$libs exec "$x86/root/usr/bin/rustc" "\$@"
+LD_LIBRARY_PATH=$libs exec "$x86/unpacked/usr/bin/rustc" "\$@"
 EOF
     cat >"$x86/bin/x86-64-ld" <<EOF
 #!/bin/sh
@@ -187,7 +187,7 @@ EOF
 make_x86_rust() {
     [ -n "$shipped" ] || fail "HOST_ARCHIVE is in use, and the archive that ships was not built" || return 1
     x86=${HOST_CACHE:-$target}/x86
-    libs=$x86/root/usr/lib/aarch64-linux-gnu
+    libs=$x86/unpacked/usr/lib/aarch64-linux-gnu
     [ -f "$x86/ready" ] && return
     fetch_x86_rust || { unset APT_CONFIG; return 1; }
     unset APT_CONFIG
