@@ -1,2 +1,2 @@
-pub mod Performing
-pub mod Calls
+pub mod Operated
+pub mod Ready

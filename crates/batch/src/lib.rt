@@ -1,42 +1,48 @@
 // 01, The batch: a call reads the whole batch and audits the pool before anything runs; then the commands run in order.
-use commands::Operation;
 use commands::Scanned;
 use commands::command_at;
 use commands::scan;
-use format::Command;
-use format::Reading;
+use encoding::Command;
+use encoding::Operation;
+use encoding::Reading;
+use format::Header;
+use format::Performed;
 use pool::audit;
+use slots::get_header;
 use slots::length_good;
+use slots::put_header;
 use slots::put_word;
-use steps::settle;
-use steps::step;
+use steps::settle_under;
+use steps::step_under;
 use tree::Answer;
 use tree::Refusal;
-use updates::delete;
-use updates::insert;
-use updates::search;
+use updates::delete_under;
+use updates::insert_under;
+use updates::search_under;
 ghost use mathlib.Core.Path.{_≡_};
 ghost use Rattle.tree.specs.Codes.{code};
-ghost use Rattle.format.specs.Batch.{batch};
-ghost use Rattle.batch.specs.Performing.{performOn, putAnswer};
-ghost use Rattle.batch.specs.Calls.{Ready};
+ghost use Rattle.encoding.specs.Batch.{batch};
+ghost use Rattle.batch.specs.Operated.{performOn, putAnswer};
+ghost use Rattle.batch.specs.Ready.{Ready};
 
 // 01: "Each command fills two answer words, code and number".
 const ANSWER_WORDS: usize = 2;
 
-// One command. (No command that was read has another operation.)
-fn perform(pool: &mut [u32], c: Command) -> Answer
-    ensures answer { λ r. ⌜ r ≡ (performOn c (now (pool .entry))) .answer ⌝ }
-    ensures pool { λ _. ⌜ now (pool .exit) ≡ (performOn c (now (pool .entry))) .words ⌝ }
+// One command, under the header that the commands before it left.
+fn perform(pool: &mut [u32], h: Header, c: Command) -> Performed
+    ensures result { λ r. ⌜ r ≡ (performOn c (now (pool .entry)) h) .result ⌝ }
+    ensures pool { λ _. ⌜ now (pool .exit) ≡ (performOn c (now (pool .entry)) h) .words ⌝ }
 {
     let operation = c.operation;
     match operation {
-        Operation::SEARCH => search(pool, c.first),
-        Operation::INSERT => insert(pool, c.first),
-        Operation::DELETE => delete(pool, c.first),
-        Operation::STEP => step(pool, c.first, c.second),
-        Operation::SETTLE => settle(pool, c.first),
-        _ => Answer::Refused(Refusal::KeyAbsent),
+        Operation::Search => Performed {
+            answer: search_under(pool, h.root, c.first),
+            header: h,
+        },
+        Operation::Insert => insert_under(pool, h, c.first),
+        Operation::Delete => delete_under(pool, h, c.first),
+        Operation::Step => step_under(pool, h, c.first, c.second),
+        Operation::Settle => settle_under(pool, h, c.first),
     }
 }
 
@@ -50,23 +56,28 @@ fn put_answer(answers: &mut [u32], place: usize, a: Answer)
     }
 }
 
-// 01: "Commands run in order and a refused command does not stop the rest."
-fn run(pool: &mut [u32], bytes: &[u8], answers: &mut [u32])
-    requires { ⌜ Ready (now pool) (now bytes) (now answers) ⌝ }
+// 01: "Commands run in order and a refused command does not stop the rest." The pool passed the audit with the header h, which is carried
+// through the commands and written once, at the end.
+fn run(pool: &mut [u32], h: Header, bytes: &[u8], answers: &mut [u32])
+    requires { ⌜ Ready (now pool) h (now bytes) (now answers) ⌝ }
     ensures pool { λ _. ⌜ now (pool .exit) ≡ (batch (now (pool .entry)) (now (bytes .entry)) (now (answers .entry))) .pool ⌝ }
     ensures answers { λ _. ⌜ now (answers .exit) ≡ (batch (now (pool .entry)) (now (bytes .entry)) (now (answers .entry))) .answers ⌝ }
 {
+    let mut left = h;
     let mut at: usize = 0;
     let mut place: usize = 0;
     while at < bytes.len() {
-        let Reading::Good(c, next) = command_at(bytes, at) else {
+        let Reading::Next(c, next) = command_at(bytes, at) else {
             return;
         };
-        let a = perform(pool, c);
-        put_answer(answers, place, a);
+        let done = perform(pool, left, c);
+        let answer = done.answer;
+        put_answer(answers, place, answer);
+        left = done.header;
         place += ANSWER_WORDS;
         at = next;
     }
+    put_header(pool, left);
 }
 
 // A call's own code and number.
@@ -106,7 +117,8 @@ pub fn batch(pool: &mut [u32], bytes: &[u8], answers: &mut [u32]) -> Called
             if audit(pool) != Answer::DONE {
                 return refuse(Refusal::RulesBroken, 0);
             }
-            run(pool, bytes, answers);
+            let h = get_header(pool);
+            run(pool, h, bytes, answers);
             Called {
                 code: Answer::DONE,
                 number: 0,

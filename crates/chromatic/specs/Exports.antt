@@ -1,12 +1,12 @@
 -- Document 01: what the exported report and the exported batch return.
 use mathlib.Core.List.{List}
 use Prim.Native.Nat.{ℕ, _+_, _*_}
-use Rattle.format.specs.Batch.{Call}
-use Rattle.report.specs.Report.{figuresOf, reportOf, figureAt}
+use Rattle.encoding.specs.Batch.{Call}
+use Rattle.report.specs.Report.{reportOf, figureAt}
 
 -- "The exported report takes an index, 1 first, and returns that number, 0 for a refused pool or any other index."
 unfoldable pub numberAt : List ℕ → ℕ → ℕ
-numberAt p index = figureAt index (figuresOf (reportOf p))
+numberAt p index = figureAt index ((reportOf p) .figures)
 
 -- "The exported batch returns its code times 4,294,967,296 plus its number."
 abbrev pub codeUnit : ℕ

@@ -3,8 +3,9 @@ use pool::audit;
 use pool::prepare;
 use report::report;
 ghost use mathlib.Core.Path.{_≡_};
-ghost use Rattle.format.specs.Batch.{batch as call};
-ghost use Rattle.pool.specs.Results.{prepareCode, preparedWords, auditCode};
+ghost use Rattle.encoding.specs.Batch.{batch as call};
+ghost use Rattle.format.specs.Audit.{auditCode};
+ghost use Rattle.pool.specs.Results.{prepareCode, preparedWords};
 ghost use Rattle.chromatic.specs.Exports.{numberAt, returned};
 
 // 01: "The exported batch returns its code times 4,294,967,296 plus its number."

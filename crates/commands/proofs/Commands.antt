@@ -1,85 +1,74 @@
 -- One command: the cases of its arguments, how `commandAt` comes to its answer, and what follows of its places. Assumes nothing.
 use mathlib.Core.Path.{_≡_, refl}
-use mathlib.Core.List.{List, [], _∷_}
-use Prim.Native.Nat.{ℕ, zero, suc, _+_, _≤_, _<_, suc-le-suc}
+use mathlib.Core.Logic.{_≢_}
+use mathlib.Core.List.{List}
+use borrow.Author.Tests.{eq-eqb, ne-eqb}
+use Prim.Native.Nat.{ℕ, _+_, _≤_, _<_}
 use native.Mathlib.Omega.{arith}
-use lib.ListN.{length, getD}
-use Rattle.format.specs.declared.Number.{Number}
-use Rattle.format.specs.declared.Number.the-variants.{Read, Wrong}
-use Rattle.format.specs.declared.Command.{Command}
-use Rattle.format.specs.declared.Reading.{Reading}
-use Rattle.format.specs.declared.Reading.the-variants.{Good, Fault}
-use Rattle.format.specs.Numbers.{number}
-use Rattle.format.specs.Batch.{arguments, command, lastArgument, onlyArgument, twoArguments, argumentsAt, operationAt, commandAt}
-use Rattle.numbers.proofs.Shortest.{number-place, number-short, number-wrong}
+use lib.ListN.{length}
+use Rattle.tree.proofs.Tests.{same-or-not}
+use Rattle.encoding.specs.declared.Number.{Number}
+use Rattle.encoding.specs.declared.Number.the-variants.{Read, Wrong}
+use Rattle.encoding.specs.declared.Operation.{Operation}
+use Rattle.encoding.specs.declared.Which.{Which}
+use Rattle.encoding.specs.declared.Which.the-variants.{Known, Unknown}
+use Rattle.encoding.specs.declared.Command.{Command}
+use Rattle.encoding.specs.declared.Reading.{Reading}
+use Rattle.encoding.specs.declared.Reading.the-variants.{Next, Fault}
+use Rattle.encoding.specs.Numbers.{number}
+use Rattle.encoding.specs.Operations.{arguments, which}
+use Rattle.encoding.specs.Batch.{command, lastArgument, onlyArgument, twoArguments, argumentsAt, meantAt, operationAt, commandAt}
+use Rattle.encoding.proofs.OperationNumbers.{which-number, operation-small}
+use Rattle.numbers.proofs.Shortest.{number-place, number-short}
 
--- a number that is no operation
-pub no-operation : (n : ℕ) → (n ≡ 1 → ⊥) → (n ≡ 2 → ⊥) → (n ≡ 3 → ⊥) → (n ≡ 4 → ⊥) → (n ≡ 5 → ⊥)
-    → arguments n ≡ 0
-unfolding arguments
-no-operation zero a b c d e = refl
-no-operation (suc zero) a b c d e = absurd (a refl)
-no-operation (suc (suc zero)) a b c d e = absurd (b refl)
-no-operation (suc (suc (suc zero))) a b c d e = absurd (c refl)
-no-operation (suc (suc (suc (suc zero)))) a b c d e = absurd (d refl)
-no-operation (suc (suc (suc (suc (suc zero))))) a b c d e = absurd (e refl)
-no-operation (suc (suc (suc (suc (suc (suc n)))))) a b c d e = refl
-
--- n arguments
-module _ (bytes : List ℕ) (i op next n : ℕ) where
-  pub none : n ≡ 0 → argumentsAt bytes i op next n ≡ Fault i
-  unfolding argumentsAt
-  none e = rw e
-
-  pub only : (a end : ℕ) → n ≡ 1 → number bytes next ≡ Read a end → argumentsAt bytes i op next n ≡ Good (command op a 0) end
+-- one argument or two
+module _ (bytes : List ℕ) (op : Operation) (next : ℕ) where
+  pub only : (a end : ℕ) → arguments op ≡ 1 → number bytes next ≡ Read a end → argumentsAt bytes op next ≡ Next (command op a 0) end
   unfolding argumentsAt onlyArgument
-  only a end e r = rw (e, r)
+  only a end e r = rw (eq-eqb _ _ e, argumentsAt, r)
 
-pub first-wrong : (bytes : List ℕ) (i op next n j : ℕ) → (n ≡ 0 → ⊥) → number bytes next ≡ Wrong j
-    → argumentsAt bytes i op next n ≡ Fault j
-unfolding argumentsAt onlyArgument twoArguments
-first-wrong bytes i op next zero j z e = absurd (z refl)
-first-wrong bytes i op next (suc zero) j z e = rw e
-first-wrong bytes i op next (suc (suc n)) j z e = rw e
+  pub two : (a end : ℕ) → arguments op ≢ 1 → number bytes next ≡ Read a end → argumentsAt bytes op next ≡ lastArgument op a (number bytes end)
+  unfolding argumentsAt twoArguments
+  two a end n r = rw (ne-eqb _ _ n, argumentsAt, r)
 
-pub two : (bytes : List ℕ) (i op next n a end : ℕ) → (n ≡ 0 → ⊥) → (n ≡ 1 → ⊥) → number bytes next ≡ Read a end
-    → argumentsAt bytes i op next n ≡ lastArgument op a (number bytes end)
-unfolding argumentsAt twoArguments
-two bytes i op next zero a end z o e = absurd (z refl)
-two bytes i op next (suc zero) a end z o e = absurd (o refl)
-two bytes i op next (suc (suc n)) a end z o e = rw e
+  pub first-wrong : (j : ℕ) → number bytes next ≡ Wrong j → argumentsAt bytes op next ≡ Fault j
+  unfolding argumentsAt onlyArgument twoArguments
+  first-wrong j e = same-or-not (arguments op) 1 (λ o. rw (eq-eqb _ _ o, argumentsAt, e)) (λ n. rw (ne-eqb _ _ n, argumentsAt, e))
 
 -- How `commandAt` comes to its answer.
 pub data Parsed (bytes : List ℕ) (i : ℕ) : Reading → Type 0 where
   wrong-operation : {j : ℕ} → number bytes i ≡ Wrong j → Parsed bytes i (Fault j)
-  unknown : {op next : ℕ} → number bytes i ≡ Read op next → arguments op ≡ 0 → Parsed bytes i (Fault i)
-  wrong-first : {op next j : ℕ} → number bytes i ≡ Read op next → number bytes next ≡ Wrong j → Parsed bytes i (Fault j)
-  wrong-last : {op next a mid j : ℕ} → number bytes i ≡ Read op next → number bytes next ≡ Read a mid → number bytes mid ≡ Wrong j
-      → Parsed bytes i (Fault j)
-  one-argument : {op next a end : ℕ} → number bytes i ≡ Read op next → arguments op ≡ 1 → number bytes next ≡ Read a end
-      → Parsed bytes i (Good (command op a 0) end)
-  two-arguments : {op next a mid b end : ℕ} → number bytes i ≡ Read op next → 1 < arguments op → number bytes next ≡ Read a mid
-      → number bytes mid ≡ Read b end → Parsed bytes i (Good (command op a b) end)
+  unknown : {n next : ℕ} → number bytes i ≡ Read n next → which n ≡ Unknown → Parsed bytes i (Fault i)
+  wrong-first : {n next j : ℕ} {op : Operation} → number bytes i ≡ Read n next → which n ≡ Known op → number bytes next ≡ Wrong j → Parsed bytes i (Fault j)
+  wrong-last : {n next a mid j : ℕ} {op : Operation} → number bytes i ≡ Read n next → which n ≡ Known op → number bytes next ≡ Read a mid
+      → number bytes mid ≡ Wrong j → Parsed bytes i (Fault j)
+  one-argument : {n next a end : ℕ} {op : Operation} → number bytes i ≡ Read n next → which n ≡ Known op → number bytes next ≡ Read a end
+      → Parsed bytes i (Next (command op a 0) end)
+  two-arguments : {n next a mid b end : ℕ} {op : Operation} → number bytes i ≡ Read n next → which n ≡ Known op → number bytes next ≡ Read a mid
+      → number bytes mid ≡ Read b end → Parsed bytes i (Next (command op a b) end)
 
 module _ (bytes : List ℕ) (i : ℕ) where
-  last-parsed : (op next a mid : ℕ) → number bytes i ≡ Read op next → 1 < arguments op → number bytes next ≡ Read a mid
+  last-parsed : {n next a mid : ℕ} {op : Operation} → number bytes i ≡ Read n next → which n ≡ Known op → number bytes next ≡ Read a mid
       → (x : Number) → number bytes mid ≡ x → Parsed bytes i (lastArgument op a x)
   unfolding lastArgument
-  last-parsed op next a mid o n f (Read b end) e = two-arguments o n f e
-  last-parsed op next a mid o n f (Wrong j) e = wrong-last o f e
+  last-parsed o k f (Read b end) e = two-arguments o k f e
+  last-parsed o k f (Wrong j) e = wrong-last o k f e
 
-  first-parsed : (op next n : ℕ) → number bytes i ≡ Read op next → arguments op ≡ n → (x : Number) → number bytes next ≡ x
-      → Parsed bytes i (argumentsAt bytes i op next n)
-  unfolding argumentsAt onlyArgument twoArguments
-  first-parsed op next zero o k x e = unknown o k
-  first-parsed op next (suc zero) o k (Read a end) e = rw e (one-argument o k e)
-  first-parsed op next (suc zero) o k (Wrong j) e = rw e (wrong-first o e)
-  first-parsed op next (suc (suc n)) o k (Read a mid) e = rw e (last-parsed op next a mid o (omega arith) e (number bytes mid) refl)
-  first-parsed op next (suc (suc n)) o k (Wrong j) e = rw e (wrong-first o e)
+  first-parsed : {n next : ℕ} (op : Operation) → number bytes i ≡ Read n next → which n ≡ Known op → (x : Number) → number bytes next ≡ x
+      → Parsed bytes i (argumentsAt bytes op next)
+  first-parsed {next = next} op o k (Read a mid) e = same-or-not (arguments op) 1
+      (λ h. rw (only bytes op next a mid h e) (one-argument o k e))
+      (λ h. rw (two bytes op next a mid h e) (last-parsed o k e (number bytes mid) refl))
+  first-parsed {next = next} op o k (Wrong j) e = rw (first-wrong bytes op next j e) (wrong-first o k e)
+
+  meant-parsed : {n next : ℕ} → number bytes i ≡ Read n next → (w : Which) → which n ≡ w → Parsed bytes i (meantAt bytes i next w)
+  unfolding meantAt
+  meant-parsed o Unknown k = unknown o k
+  meant-parsed {next = next} o (Known op) k = first-parsed op o k (number bytes next) refl
 
   begun-parsed : (x : Number) → number bytes i ≡ x → Parsed bytes i (operationAt bytes i x)
   unfolding operationAt
-  begun-parsed (Read op next) e = first-parsed op next (arguments op) e refl (number bytes next) refl
+  begun-parsed (Read n next) e = meant-parsed e (which n) refl
   begun-parsed (Wrong j) e = wrong-operation e
 
   pub parsed : Parsed bytes i (commandAt bytes i)
@@ -87,35 +76,16 @@ module _ (bytes : List ℕ) (i : ℕ) where
   parsed = begun-parsed (number bytes i) refl
 
 -- an operation's number is one byte long
-in-table : (xs : List ℕ) (n : ℕ) → 0 < getD xs n 0 → n < length xs
-in-table [] n h = absurd (omega arith)
-in-table (x ∷ xs) zero h = omega arith
-in-table (x ∷ xs) (suc n) h = suc-le-suc (in-table xs n h)
+operation-short : (bytes : List ℕ) (i n next : ℕ) {op : Operation} → number bytes i ≡ Read n next → which n ≡ Known op → next ≡ i + 1
+operation-short bytes i n next {op} o k = number-short bytes i o (omega (arith, which-number n op k, operation-small op))
 
-operation-small : (op : ℕ) → 0 < arguments op → op < 6
-unfolding arguments
-operation-small op h = in-table (0 ∷ 1 ∷ 1 ∷ 1 ∷ 2 ∷ 1 ∷ []) op h
-
-operation-short : (bytes : List ℕ) (i op next : ℕ) → number bytes i ≡ Read op next → 0 < arguments op → next ≡ i + 1
-operation-short bytes i op next o h = let small = operation-small op h in number-short bytes i o (omega arith)
-
-parsed-place : {bytes : List ℕ} {i : ℕ} {c : Command} {next : ℕ} → Parsed bytes i (Good c next)
+parsed-place : {bytes : List ℕ} {i : ℕ} {c : Command} {next : ℕ} → Parsed bytes i (Next c next)
     → (i < next) × (next ≤ length bytes) × (next ≤ i + 11)
-parsed-place {bytes} {i} (one-argument {op = op} {next = mid} o k f) =
-    omega (arith, operation-short bytes i op mid o (omega arith), number-place bytes mid f)
-parsed-place {bytes} {i} (two-arguments {op = op} {next = first} {mid = mid} o k f g) =
-    omega (arith, operation-short bytes i op first o (omega arith), number-place bytes first f, number-place bytes mid g)
-
-parsed-fault : {bytes : List ℕ} {i j : ℕ} → Parsed bytes i (Fault j) → j ≤ length bytes
-parsed-fault {bytes} {i} (wrong-operation e) = number-wrong bytes i e
-parsed-fault {bytes} {i} (unknown o k) = omega (arith, number-place bytes i o)
-parsed-fault {bytes} {i} (wrong-first {next = next} o e) = number-wrong bytes next e
-parsed-fault {bytes} {i} (wrong-last {mid = mid} o f e) = number-wrong bytes mid e
+parsed-place {bytes} {i} (one-argument {n = n} {next = mid} o k f) = omega (arith, operation-short bytes i n mid o k, number-place bytes mid f)
+parsed-place {bytes} {i} (two-arguments {n = n} {next = first} {mid = mid} o k f g) =
+    omega (arith, operation-short bytes i n first o k, number-place bytes first f, number-place bytes mid g)
 
 module _ (bytes : List ℕ) (i : ℕ) where
   -- a command has at most 11 bytes: an operation of one byte and two numbers of five
-  pub command-place : {c : Command} {next : ℕ} → commandAt bytes i ≡ Good c next → (i < next) × (next ≤ length bytes) × (next ≤ i + 11)
+  pub command-place : {c : Command} {next : ℕ} → commandAt bytes i ≡ Next c next → (i < next) × (next ≤ length bytes) × (next ≤ i + 11)
   command-place e = parsed-place (rw e at (parsed bytes i))
-
-  pub command-fault : {j : ℕ} → commandAt bytes i ≡ Fault j → j ≤ length bytes
-  command-fault e = parsed-fault (rw e at (parsed bytes i))

@@ -7,10 +7,10 @@ use native.Mathlib.Numerals.{sub-one}
 use native.Mathlib.Omega.{arith}
 use lib.ListN.{length}
 use borrow.Author.Tests.{le-leb, lt-leb}
-use Rattle.format.specs.declared.Command.{Command}
-use Rattle.format.specs.declared.Reading.{Reading}
-use Rattle.format.specs.declared.Reading.the-variants.{Good, Fault}
-use Rattle.format.specs.Batch.{commandAt, Batch, commands, badAt, after, readFrom}
+use Rattle.encoding.specs.declared.Command.{Command}
+use Rattle.encoding.specs.declared.Reading.{Reading}
+use Rattle.encoding.specs.declared.Reading.the-variants.{Next, Fault}
+use Rattle.encoding.specs.Batch.{commandAt, Batch, commands, badAt, after, readFrom}
 
 -- From place i on, where n commands may still stand: the end of the batch; one command too many; a bad command; a good one.
 module _ (bytes : List ℕ) where
@@ -28,7 +28,7 @@ module _ (bytes : List ℕ) where
   read-fault zero i j h e = rw (lt-leb _ _ h, readFrom)
   read-fault (suc n) i j h e = rw (lt-leb _ _ h, e, readFrom)
 
-  pub read-good : (n i : ℕ) (c : Command) (next : ℕ) → i < length bytes → (n ≡ 0 → ⊥) → commandAt bytes i ≡ Good c next
+  pub read-good : (n i : ℕ) (c : Command) (next : ℕ) → i < length bytes → (n ≡ 0 → ⊥) → commandAt bytes i ≡ Next c next
       → readFrom n bytes i ≡ after c (readFrom (n - 1) bytes next)
   unfolding readFrom
   read-good zero i c next h z e = absurd (z refl)
@@ -39,13 +39,13 @@ pub data Taken (bytes : List ℕ) : ℕ → ℕ → Batch → Type 0 where
   taken-end : {n i : ℕ} → length bytes ≤ i → Taken bytes n i (commands [])
   taken-over : {i : ℕ} → i < length bytes → Taken bytes 0 i (badAt i)
   taken-fault : {n i j : ℕ} → i < length bytes → commandAt bytes i ≡ Fault j → Taken bytes n i (badAt i)
-  taken-good : {n i next : ℕ} {c : Command} {cs : List Command} → i < length bytes → commandAt bytes i ≡ Good c next
+  taken-good : {n i next : ℕ} {c : Command} {cs : List Command} → i < length bytes → commandAt bytes i ≡ Next c next
       → Taken bytes n next (commands cs) → Taken bytes (suc n) i (commands (c ∷ cs))
-  taken-bad : {n i j next : ℕ} {c : Command} → i < length bytes → commandAt bytes i ≡ Good c next → Taken bytes n next (badAt j)
+  taken-bad : {n i j next : ℕ} {c : Command} → i < length bytes → commandAt bytes i ≡ Next c next → Taken bytes n next (badAt j)
       → Taken bytes (suc n) i (badAt j)
 
 module _ (bytes : List ℕ) where
-  onward : (n i : ℕ) (c : Command) (next : ℕ) → i < length bytes → commandAt bytes i ≡ Good c next → (b : Batch) → Taken bytes n next b
+  onward : (n i : ℕ) (c : Command) (next : ℕ) → i < length bytes → commandAt bytes i ≡ Next c next → (b : Batch) → Taken bytes n next b
       → Taken bytes (suc n) i (after c b)
   unfolding after
   onward n i c next h e (commands cs) t = taken-good h e t
@@ -63,7 +63,7 @@ module _ (bytes : List ℕ) where
     where
       at-command : (x : Reading) → commandAt bytes i ≡ x → i < length bytes → ((next : ℕ) → Taken bytes n next (readFrom n bytes next))
           → Taken bytes (suc n) i (readFrom (suc n) bytes i)
-      at-command (Good c next) e h t =
+      at-command (Next c next) e h t =
           rw (read-good bytes (suc n) i c next h (λ z. omega arith) e, sub-one (suc n))
           (onward n i c next h e (readFrom n bytes next) (t next))
       at-command (Fault j) e h t = rw (read-fault bytes (suc n) i j h e) (taken-fault h e)

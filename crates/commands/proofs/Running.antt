@@ -6,18 +6,22 @@ use mathlib.Core.Logic.{_↔_}
 use Prim.Native.Nat.{ℕ, _+_, _*_, _-_, _≤_, _<_}
 use native.Mathlib.Omega.{arith}
 use lib.ListN.{length, length-append}
-use Rattle.format.specs.declared.Command.{Command}
-use Rattle.format.specs.declared.Reading.the-variants.{Good, Fault}
-use Rattle.format.specs.Batch.{mostCommands, commandAt, Batch, commands, badAt, after, readFrom, readBatch}
+use Rattle.encoding.specs.declared.Command.{Command}
+use Rattle.encoding.specs.declared.Reading.the-variants.{Next, Fault}
+use Rattle.encoding.specs.Batch.{mostCommands, commandAt, Batch, commands, badAt, after, readFrom, readBatch}
 use Rattle.commands.specs.declared.Scanned.the-variants.{Commands, BadAt}
 use Rattle.commands.specs.Scanned.{scanned}
-use Rattle.commands.proofs.Commands.{command-place}
+use Rattle.tree.specs.State.{keyEnd}
+use Rattle.encoding.specs.Numbers.{Bytes}
+use Rattle.encoding.proofs.Performs.{AllSmall}
+use Rattle.numbers.proofs.Shortest.{number-value}
+use Rattle.commands.proofs.Commands.{Parsed, one-argument, two-arguments, parsed, command-place}
 use Rattle.commands.proofs.Reading.{Taken, taken, taken-end, taken-over, taken-fault, taken-good, taken-bad, read-end, read-good}
 
 -- the commands cs stand in the bytes from place i to the end
 pub data StandFrom (bytes : List ℕ) : ℕ → List Command → Type 0 where
   stand-none : {i : ℕ} → length bytes ≤ i → StandFrom bytes i []
-  stand-some : {i next : ℕ} {c : Command} {cs : List Command} → i < length bytes → commandAt bytes i ≡ Good c next → StandFrom bytes next cs
+  stand-some : {i next : ℕ} {c : Command} {cs : List Command} → i < length bytes → commandAt bytes i ≡ Next c next → StandFrom bytes next cs
       → StandFrom bytes i (c ∷ cs)
 
 taken-stand : {bytes : List ℕ} {n i : ℕ} {cs : List Command} → Taken bytes n i (commands cs) → StandFrom bytes i cs × (length cs ≤ n)
@@ -45,7 +49,7 @@ unfolding readBatch
 running-starts {bytes} {cs} e = record { all = refl; ahead = read-exactly mostCommands bytes 0 cs .0 e .0 }
 
 good-next : {bytes : List ℕ} {i next : ℕ} {c : Command} {cs : List Command} → StandFrom bytes i cs → i < length bytes
-    → commandAt bytes i ≡ Good c next → (rest : List Command) × (cs ≡ c ∷ rest) × StandFrom bytes next rest
+    → commandAt bytes i ≡ Next c next → (rest : List Command) × (cs ≡ c ∷ rest) × StandFrom bytes next rest
 good-next (stand-none h) k e = absurd (omega arith)
 good-next {bytes} {next = next} {c = c} (stand-some {next = next′} {c = c′} {cs = cs} h g s) k e =
     let same : c′ ≡ c = cc in let on : next′ ≡ next = cc in (cs, ap (λ (d : Command). d ∷ cs) same, rw on at s)
@@ -68,7 +72,7 @@ goes-on (stand-some h g s) k = h
 
 module _ {bytes : List ℕ} {cs done rest : List Command} {at : ℕ} (w : Running bytes cs done rest at) where
   -- the command that is read here is the first of the rest, and the loop goes on behind it
-  pub running-good : {c : Command} {next : ℕ} → at < length bytes → commandAt bytes at ≡ Good c next
+  pub running-good : {c : Command} {next : ℕ} → at < length bytes → commandAt bytes at ≡ Next c next
       → (more : List Command) × (rest ≡ c ∷ more) × Running bytes cs (done ++ (c ∷ [])) more next
   running-good {c} {next} h e =
       let g = good-next (w .ahead) h e in
@@ -87,10 +91,6 @@ module _ {bytes : List ℕ} {cs done rest : List Command} {at : ℕ} (w : Runnin
   -- bytes are left exactly while commands are left
   pub running-more : (at < length bytes) ↔ (length done < length cs)
   running-more = (λ h. omega (arith, counts, left (w .ahead) h), λ h. goes-on (w .ahead) (omega (arith, counts)))
-
-  -- and the rest are what `readFrom` reads from here on
-  pub running-reads : length cs ≤ mostCommands → readFrom (mostCommands - length done) bytes at ≡ commands rest
-  running-reads h = stand-read (mostCommands - length done) (w .ahead) (omega (arith, counts))
 
 -- "a good batch has at most 2,816" bytes: 256 commands of 11. A bad command begins no later, and before the end.
 stand-size : {bytes : List ℕ} {i : ℕ} {cs : List Command} → StandFrom bytes i cs → length bytes ≤ i + 11 * length cs
@@ -121,3 +121,17 @@ pub scanned-bad : {i : ℕ} (b : Batch) → scanned b ≡ BadAt i → b ≡ badA
 unfolding scanned
 scanned-bad (commands cs) e = absurd (let z : _≡_ {A = ℕ} 0 1 = cc in omega arith)
 scanned-bad (badAt j) e = ap badAt (cc)
+
+-- Arguments read from bytes are "at most 4,294,967,295".
+parsed-small : {bytes : List ℕ} {i : ℕ} {c : Command} {next : ℕ} → Bytes bytes → Parsed bytes i (Next c next) → c .first < keyEnd
+parsed-small {bytes} b (one-argument {next = mid} o k f) = omega (arith, number-value bytes mid b f)
+parsed-small {bytes} b (two-arguments {next = mid} o k f g) = omega (arith, number-value bytes mid b f)
+
+stand-small : {bytes : List ℕ} {i : ℕ} {cs : List Command} → Bytes bytes → StandFrom bytes i cs → AllSmall cs
+unfolding AllSmall
+stand-small b (stand-none h) = tt
+stand-small {bytes} {i} b (stand-some h e s) = (parsed-small b (rw e at (parsed bytes i)), stand-small b s)
+
+pub read-small : (bytes : List ℕ) {cs : List Command} → Bytes bytes → readBatch bytes ≡ commands cs → AllSmall cs
+unfolding readBatch
+read-small bytes {cs} b e = stand-small b (read-exactly mostCommands bytes 0 cs .0 e .0)

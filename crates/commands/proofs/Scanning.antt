@@ -6,9 +6,9 @@ use Prim.Native.Nat.{ℕ, _+_, _-_, _≤_, _<_}
 use native.Mathlib.Nat.{add-zero}
 use native.Mathlib.Omega.{arith}
 use lib.ListN.{length}
-use Rattle.format.specs.declared.Command.{Command}
-use Rattle.format.specs.declared.Reading.the-variants.{Good, Fault}
-use Rattle.format.specs.Batch.{mostCommands, commandAt, Batch, commands, badAt, after, readFrom, readBatch}
+use Rattle.encoding.specs.declared.Command.{Command}
+use Rattle.encoding.specs.declared.Reading.the-variants.{Next, Fault}
+use Rattle.encoding.specs.Batch.{mostCommands, commandAt, Batch, commands, badAt, after, readFrom, readBatch}
 use Rattle.commands.specs.declared.Scanned.{Scanned}
 use Rattle.commands.specs.declared.Scanned.the-variants.{Commands, BadAt}
 use Rattle.commands.specs.Scanned.{scanned}
@@ -29,12 +29,12 @@ counted-one k c (commands cs) = ap Commands (omega arith)
 counted-one k c (badAt i) = refl
 
 pub record Scanning (bytes : List ℕ) (count at : ℕ) : Type 0 where
-  pub room : count ≤ mostCommands
+  pub few : count ≤ mostCommands
   pub rest : counted count (scanned (readFrom (mostCommands - count) bytes at)) ≡ scanned (readBatch bytes)
 
 pub scan-starts : (bytes : List ℕ) → Scanning bytes 0 0
 unfolding readBatch
-scan-starts bytes = record { room = omega arith; rest = counted-none (scanned (readFrom mostCommands bytes 0)) }
+scan-starts bytes = record { few = omega arith; rest = counted-none (scanned (readFrom mostCommands bytes 0)) }
 
 module _ {bytes : List ℕ} {count at : ℕ} (s : Scanning bytes count at) where
   answer : (b : Batch) → readFrom (mostCommands - count) bytes at ≡ b → counted count (scanned b) ≡ scanned (readBatch bytes)
@@ -52,12 +52,12 @@ module _ {bytes : List ℕ} {count at : ℕ} (s : Scanning bytes count at) where
   unfolding scanned
   scan-fault j h e = answer (badAt at) (read-fault bytes (mostCommands - count) at j h e)
 
-  pub scan-good : (c : Command) (next : ℕ) → at < length bytes → (count ≡ mostCommands → ⊥) → commandAt bytes at ≡ Good c next
+  pub scan-good : (c : Command) (next : ℕ) → at < length bytes → (count ≡ mostCommands → ⊥) → commandAt bytes at ≡ Next c next
       → Scanning bytes (count + 1) next
   scan-good c next h z e =
-      let more : mostCommands - count - 1 ≡ mostCommands - (count + 1) = omega arith in let r = s .room in
+      let more : mostCommands - count - 1 ≡ mostCommands - (count + 1) = omega arith in let r = s .few in
       let read = read-good bytes (mostCommands - count) at c next h (λ y. omega arith) e in
       record {
-        room = omega arith;
+        few = omega arith;
         rest = rw (← more) (sym (counted-one count c (readFrom (mostCommands - count - 1) bytes next)) ∙ answer _ read);
       }

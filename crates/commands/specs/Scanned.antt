@@ -1,7 +1,7 @@
 -- What a first look at a batch finds: how many commands it has, or where the first bad one begins.
 use Prim.Native.Nat.{ℕ}
 use lib.ListN.{length}
-use Rattle.format.specs.Batch.{Batch, commands, badAt}
+use Rattle.encoding.specs.Batch.{Batch, commands, badAt}
 use Rattle.commands.specs.declared.Scanned.{Scanned}
 use Rattle.commands.specs.declared.Scanned.the-variants.{Commands, BadAt}
 

@@ -1,44 +1,16 @@
-// 01, The batch: "A command is an operation number and its arguments: 1 search key; 2 insert key; 3 delete key; 4 step slot kind;
-// 5 settle budget. At most 256 commands. An empty batch is good."
-use format::Command;
-use format::Number;
-use format::Reading;
+// 01, The batch: "A command is an operation number and its arguments [..] At most 256 commands. An empty batch is good."
+use encoding::Command;
+use encoding::Number;
+use encoding::Operation;
+use encoding::Reading;
+use encoding::Which;
 use numbers::number;
 ghost use mathlib.Core.Path.{_≡_};
-ghost use Rattle.format.specs.Numbers.{number};
-ghost use Rattle.format.specs.Batch.{arguments, lastArgument, argumentsAt, commandAt, readBatch};
+ghost use Rattle.encoding.specs.Numbers.{number};
+ghost use Rattle.encoding.specs.Batch.{lastArgument, argumentsAt, commandAt, readBatch};
 ghost use Rattle.commands.specs.Scanned.{scanned};
 
-const MOST_COMMANDS: usize = 256;
-
-// The operations' numbers.
-pub struct Operation;
-
-impl Operation {
-    pub const SEARCH: u32 = 1;
-
-    pub const INSERT: u32 = 2;
-
-    pub const DELETE: u32 = 3;
-
-    pub const STEP: u32 = 4;
-
-    pub const SETTLE: u32 = 5;
-}
-
-// How many arguments an operation has, 0 for a number that is no operation.
-pub fn arguments(operation: u32) -> u32
-    ensures { λ r. ⌜ r ≡ arguments operation ⌝ }
-{
-    match operation {
-        Operation::SEARCH => 1,
-        Operation::INSERT => 1,
-        Operation::DELETE => 1,
-        Operation::STEP => 2,
-        Operation::SETTLE => 1,
-        _ => 0,
-    }
-}
+pub const MOST_COMMANDS: usize = 256;
 
 // The command at place `at`, or the place of its fault: an unknown operation's is where its number begins.
 pub fn command_at(bytes: &[u8], at: usize) -> Reading
@@ -46,22 +18,24 @@ pub fn command_at(bytes: &[u8], at: usize) -> Reading
 {
     match number(bytes, at) {
         Number::Wrong(place) => Reading::Fault(place),
-        Number::Read(operation, next) => arguments_at(bytes, at, operation, next),
+        Number::Read(n, next) => {
+            let Which::Known(operation) = Operation::named(n) else {
+                return Reading::Fault(at);
+            };
+            arguments_at(bytes, operation, next)
+        }
     }
 }
 
-fn arguments_at(bytes: &[u8], at: usize, operation: u32, next: usize) -> Reading
-    ensures { λ r. ⌜ r ≡ argumentsAt (now (bytes .entry)) at operation next (arguments operation) ⌝ }
+// The arguments of an operation, from place `next` on: one or two.
+fn arguments_at(bytes: &[u8], operation: Operation, next: usize) -> Reading
+    ensures { λ r. ⌜ r ≡ argumentsAt (now (bytes .entry)) operation next ⌝ }
 {
-    let count = arguments(operation);
-    if count == 0 {
-        return Reading::Fault(at);
-    }
     match number(bytes, next) {
         Number::Wrong(place) => Reading::Fault(place),
         Number::Read(first, end) => {
-            if count == 1 {
-                Reading::Good(
+            if operation.arguments() == 1 {
+                Reading::Next(
                     Command {
                         operation,
                         first,
@@ -76,12 +50,12 @@ fn arguments_at(bytes: &[u8], at: usize, operation: u32, next: usize) -> Reading
     }
 }
 
-fn last_argument(bytes: &[u8], operation: u32, first: u32, next: usize) -> Reading
+fn last_argument(bytes: &[u8], operation: Operation, first: u32, next: usize) -> Reading
     ensures { λ r. ⌜ r ≡ lastArgument operation first (number (now (bytes .entry)) next) ⌝ }
 {
     match number(bytes, next) {
         Number::Wrong(place) => Reading::Fault(place),
-        Number::Read(second, end) => Reading::Good(
+        Number::Read(second, end) => Reading::Next(
             Command {
                 operation,
                 first,
@@ -110,7 +84,7 @@ pub fn scan(bytes: &[u8]) -> Scanned
         }
         match command_at(bytes, at) {
             Reading::Fault(_fault) => return Scanned::BadAt(at),
-            Reading::Good(_, next) => {
+            Reading::Next(_, next) => {
                 count = count + 1;
                 at = next;
             }

@@ -7,16 +7,19 @@ use mathlib.Core.List.{List, []}
 use native.Mathlib.Omega.{arith}
 use Prim.Native.Nat.{ℕ}
 use Rattle.tree.specs.State.{Sound}
-use Rattle.format.specs.declared.Command.{Command}
-use Rattle.format.specs.Shows.{Shows}
+use Rattle.encoding.specs.declared.Command.{Command}
+use Rattle.format.specs.Shows.{PoolShows}
 use Rattle.format.specs.Audit.{stateOf}
-use Rattle.format.specs.Batch.{commands, readBatch, runAll, Call, called, refused, batch}
+use Rattle.encoding.specs.Batch.{commands, readBatch, runAll, Call, called, refused, batch}
 use Rattle.format.proofs.Shown.{shows-words}
 use Rattle.set.specs.Set.{Passing}
 use Rattle.set.proofs.Passing.{passing-state}
-use Rattle.demands.specs.Calls.{Entry, logOf, Bytes, Calls, no-call, then-call}
-use Rattle.demands.proofs.Endings.{Ending, wrong-length, bad-command, few-answers, rules-broken, ran, ending}
-use Rattle.demands.proofs.Runs.{AllSmall, read-small, run-sound, entriesOf, log-none, log-ran}
+use Rattle.encoding.specs.Numbers.{Bytes}
+use Rattle.encoding.proofs.Endings.{Ending, length-refused, bad-command, few-answers, rules-refused, ran, ending}
+use Rattle.encoding.proofs.Performs.{AllSmall, run-sound}
+use Rattle.demands.specs.Calls.{Entry, logOf, Calls, no-call, then-call}
+use Rattle.commands.proofs.Running.{read-small}
+use Rattle.demands.proofs.Runs.{entriesOf, log-none, log-ran}
 
 -- the commands cs ran
 pub record Ran (p bytes out : List ℕ) (cs : List Command) : Type 0 where
@@ -24,7 +27,7 @@ pub record Ran (p bytes out : List ℕ) (cs : List Command) : Type 0 where
   pub small : AllSmall cs
   pub sound : Sound (stateOf p)
   pub sound-after : Sound (runAll cs (stateOf p))
-  pub shows-after : Shows ((batch p bytes out) .pool) (runAll cs (stateOf p))
+  pub shows-after : PoolShows ((batch p bytes out) .pool) (runAll cs (stateOf p))
   pub log-is : logOf p bytes out ≡ entriesOf cs (stateOf p)
   pub passing : Passing ((batch p bytes out) .pool)
 
@@ -41,15 +44,15 @@ module _ {p : List ℕ} (g : Passing p) (bytes out : List ℕ) (b : Bytes bytes)
       keep e d q = let c : (batch p bytes out) .code ≢ 0 = λ z. d (sym e ∙ z) in call-kept c q (log-none p bytes out c)
 
       go : {r : Call} → Ending p bytes out r → batch p bytes out ≡ r → Result p bytes out
-      go (wrong-length l) e = keep (ap (λ (r : Call). r .code) e) (omega arith) (ap (λ (r : Call). r .pool) e)
+      go (length-refused l) e = keep (ap (λ (r : Call). r .code) e) (omega arith) (ap (λ (r : Call). r .pool) e)
       go (bad-command l f) e = keep (ap (λ (r : Call). r .code) e) (omega arith) (ap (λ (r : Call). r .pool) e)
       go (few-answers l f h) e = keep (ap (λ (r : Call). r .code) e) (omega arith) (ap (λ (r : Call). r .pool) e)
-      go (rules-broken l f h r) e = keep (ap (λ (r : Call). r .code) e) (omega arith) (ap (λ (r : Call). r .pool) e)
+      go (rules-refused l f h r) e = keep (ap (λ (r : Call). r .code) e) (omega arith) (ap (λ (r : Call). r .pool) e)
       go (ran {cs} l f h r) e =
           let S = passing-state g in
           let small = read-small bytes b f in
           let sound = run-sound cs (stateOf p) small (S .0) in
-          let shows : Shows ((batch p bytes out) .pool) (runAll cs (stateOf p)) = rw e (shows-words sound) in
+          let shows : PoolShows ((batch p bytes out) .pool) (runAll cs (stateOf p)) = rw e (shows-words sound) in
           call-did (ap (λ (r : Call). r .code) e) f (record {
             call-is = e;
             small = small;

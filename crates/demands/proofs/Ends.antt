@@ -13,29 +13,22 @@ use mathlib.Core.List.{List, [], _∷_, _++_}
 use lib.ListN.{length, getD}
 use native.Mathlib.Omega.{arith}
 use Prim.Native.Nat.{ℕ, zero, suc, _+_, _*_, _≤_, _<_}
-use Rattle.tree.specs.Codes.{mostSlots}
 use Rattle.tree.specs.State.{State, Sound}
-use Rattle.format.specs.declared.Command.{Command}
-use Rattle.format.specs.Words.{lengthGood, wordsOf}
-use Rattle.format.specs.Audit.{rulesHold, stateOf}
-use Rattle.format.specs.Batch.{commands, badAt, readBatch, perform, answersOf, runAll, Call, called, refused, batch}
-use Rattle.format.proofs.Shown.{good-length, length-is-good}
+use Rattle.encoding.specs.declared.Command.{Command}
+use Rattle.format.specs.Words.{headerOf, lengthGood, wordsOf}
+use Rattle.format.specs.Audit.{rulesHold, stateOf, auditCode}
+use Rattle.encoding.specs.Batch.{commands, badAt, readBatch, perform, answersOf, runAll, Call, called, refused, batch}
 use Rattle.format.proofs.Rules.{rules-show}
-use Rattle.pool.specs.Results.{auditCode}
-use Rattle.pool.proofs.Audits.{Words32}
+use Rattle.format.proofs.AuditCases.{Words32}
 use Rattle.set.specs.Set.{Passing}
 use Rattle.set.proofs.Promises.{passing-audited}
-use Rattle.demands.specs.Calls.{Bytes, poolAfter}
-use Rattle.demands.proofs.Endings.{Ending, wrong-length, bad-command, few-answers, rules-broken, ran, ending, bad-ends, few-ends, broken-ends, ran-ends}
-use Rattle.demands.proofs.Runs.{run-sound, small-append, run-append, answers-append, perform-kept, refused-number, Split, split-words, later-word, filled-length}
+use Rattle.encoding.specs.Numbers.{Bytes}
+use Rattle.encoding.proofs.Endings.{Ending, length-refused, bad-command, few-answers, rules-refused, ran, ending, length-ends, bad-ends, few-ends, broken-ends, ran-ends}
+use Rattle.encoding.proofs.Performs.{run-sound, small-append, perform-kept, refused-number}
+use Rattle.encoding.proofs.AnswerWords.{run-append, answers-append, later-word, filled-length}
+use Rattle.demands.specs.Calls.{poolAfter}
+use Rattle.demands.proofs.Runs.{Split, split-words}
 use Rattle.demands.proofs.Called.{call-ran}
-
--- "pool length is not 4 + 4C": `lengthGood` is this.
-pub length-exactly : (p : List ℕ) → (lengthGood p ≡ true) ↔ ((c : ℕ) × (1 ≤ c) × (c ≤ mostSlots) × (length p ≡ 4 + 4 * c))
-length-exactly p = (
-  λ e. let g = good-length p e in (_, g .some-slots, g .few-slots, g .length-is),
-  λ g. length-is-good p (g .0) (g .3) (g .1) (g .2),
-)
 
 module _ (p bytes out : List ℕ) where
   -- 01's table, "Given exactly when": the first rows, and 0 when none of them is. "In the order 1, 3, 4, 2."
@@ -49,16 +42,16 @@ module _ (p bytes out : List ℕ) where
 
   caused : {r : Call} → Ending p bytes out r → Cause (r .code)
   unfolding Cause refused called
-  caused (wrong-length l) = l
+  caused (length-refused l) = l
   caused (bad-command {i} l e) = (l, (i, e))
   caused (few-answers {cs} l e h) = (l, (cs, e, h))
-  caused (rules-broken {cs} l e h r) = (l, (cs, e, h), r)
+  caused (rules-refused {cs} l e h r) = (l, (cs, e, h), r)
   caused (ran {cs} l e h r) = (l, (cs, e, h), r)
 
   causes : (n : ℕ) → Cause n → (batch p bytes out) .code ≡ n
-  unfolding Cause refused called batch
+  unfolding Cause refused called
   causes zero c = ap (λ (r : Call). r .code) (ran-ends p bytes out (c .0) (c .1 .1) (c .1 .2) (c .2))
-  causes (suc zero) c = rw (c, batch)
+  causes (suc zero) c = ap (λ (r : Call). r .code) (length-ends p bytes out c)
   causes (suc (suc zero)) c = ap (λ (r : Call). r .code) (broken-ends p bytes out (c .0) (c .1 .1) (c .1 .2) (c .2))
   causes (suc (suc (suc zero))) c = ap (λ (r : Call). r .code) (bad-ends p bytes out (c .0) (c .1 .1))
   causes (suc (suc (suc (suc zero)))) c = ap (λ (r : Call). r .code) (few-ends p bytes out (c .0) (c .1 .1) (c .1 .2))
@@ -91,43 +84,32 @@ module _ (p bytes out : List ℕ) where
   unfolding Cause
   code-4 = code-exactly 4
 
-  pub code-most : (batch p bytes out) .code ≤ 4
-  unfolding refused called
-  code-most = go (ending p bytes out)
-    where
-      go : {r : Call} → Ending p bytes out r → r .code ≤ 4
-      go (wrong-length l) = omega arith
-      go (bad-command l e) = omega arith
-      go (few-answers l e h) = omega arith
-      go (rules-broken l e h r) = omega arith
-      go (ran l e h r) = omega arith
-
   -- "Codes 1 to 4 refuse the call [..] and change no word."
   pub refused-keeps : (batch p bytes out) .code ≢ 0 → ((batch p bytes out) .pool ≡ p) × ((batch p bytes out) .answers ≡ out)
   unfolding refused called
   refused-keeps = go (ending p bytes out)
     where
       go : {r : Call} → Ending p bytes out r → r .code ≢ 0 → (r .pool ≡ p) × (r .answers ≡ out)
-      go (wrong-length l) n = (refl, refl)
+      go (length-refused l) n = (refl, refl)
       go (bad-command l e) n = (refl, refl)
       go (few-answers l e h) n = (refl, refl)
-      go (rules-broken l e h r) n = (refl, refl)
+      go (rules-refused l e h r) n = (refl, refl)
       go (ran l e h r) n = absurd (n refl)
 
   -- Code 3's number is the "byte, counted from 0, where the first such command begins"; every other code's is 0.
-  pub record Numbered (r : Call) : Type 0 where
+  pub record CallNumber (r : Call) : Type 0 where
     pub place : r .code ≡ 3 → readBatch bytes ≡ badAt (r .number)
     pub none : r .code ≢ 3 → r .number ≡ 0
 
-  pub call-number : Numbered (batch p bytes out)
+  pub call-number : CallNumber (batch p bytes out)
   unfolding refused called
   call-number = go (ending p bytes out)
     where
-      go : {r : Call} → Ending p bytes out r → Numbered r
-      go (wrong-length l) = record { place = λ z. absurd (omega arith); none = λ z. refl }
+      go : {r : Call} → Ending p bytes out r → CallNumber r
+      go (length-refused l) = record { place = λ z. absurd (omega arith); none = λ z. refl }
       go (bad-command l e) = record { place = λ z. e; none = λ n. absurd (n refl) }
       go (few-answers l e h) = record { place = λ z. absurd (omega arith); none = λ z. refl }
-      go (rules-broken l e h r) = record { place = λ z. absurd (omega arith); none = λ z. refl }
+      go (rules-refused l e h r) = record { place = λ z. absurd (omega arith); none = λ z. refl }
       go (ran l e h r) = record { place = λ z. absurd (omega arith); none = λ z. refl }
 
 -- The command c, between the commands `before` and `rest` of a call, changed no pool word, and the call is what it is without c but for
@@ -182,5 +164,5 @@ module _ {p : List ℕ} (g : Passing p) (bytes out : List ℕ) (b : Bytes bytes)
 pub passes-after : (p bytes out : List ℕ) → Words32 p → Bytes bytes → (batch p bytes out) .code ≡ 0 → auditCode ((batch p bytes out) .pool) ≡ 0
 passes-after p bytes out words b given =
     let c = code-0 p bytes out .0 given in
-    let g = rules-show p (c .0) (c .2) words in
+    let g = rules-show (headerOf p) p (c .0) (c .2) words in
     passing-audited (call-ran (stateOf p, g .0, g .1) bytes out b given (c .1 .1) .passing)

@@ -5,77 +5,81 @@
 -- Why: an insert with code 0 adds its key and no other, a delete with code 0 takes its key and no other, and nothing else moves a key
 -- (crate tree); so after each command the set is what the log tells. Assumes nothing.
 use mathlib.Core.Path.{_≡_, refl, ap, sym, _∙_}
-use mathlib.Core.Logic.{_↔_}
+use mathlib.Core.Logic.{_↔_, _≢_}
 use mathlib.Core.Bool.{Bool, true, false}
 use mathlib.Core.List.{List, [], _∷_, _++_}
 use lib.ListN.{length, getD}
 use native.Mathlib.Omega.{arith}
 use Prim.Native.Nat.{ℕ, _*_}
+use Rattle.tree.specs.declared.Answer.{Answer}
 use Rattle.tree.specs.declared.Answer.the-variants.{Done}
 use Rattle.tree.specs.Codes.{codeOf}
 use Rattle.tree.specs.Tree.{countIn}
-use Rattle.tree.specs.State.{State, keysOf, Sound, Outcome, search, step}
+use Rattle.tree.specs.State.{State, isIn, Sound, Outcome, search, step}
 use Rattle.tree.specs.Settle.{settle}
 use Rattle.tree.proofs.Tests.{same-or-not, one-same, one-other}
-use Rattle.tree.proofs.Updated.{occursTop, isIn, search-kept, search-codes as search-codes-state, InsertSays, present, no-room, added, insert-says, DeleteSays, absent, removed, delete-says}
+use Rattle.tree.proofs.Updated.{search-kept, search-codes as search-codes-state, InsertSays, present, no-room, added, insert-says, DeleteSays, absent, removed, delete-says}
 use Rattle.tree.proofs.StepState.{step-keeps-keys}
-use Rattle.format.specs.declared.Command.{Command}
+use Rattle.encoding.specs.declared.Operation.{Operation}
+use Rattle.encoding.specs.declared.Operation.the-variants.{Search, Insert, Delete, Step, Settle}
+use Rattle.encoding.specs.declared.Command.{Command}
+use Rattle.encoding.specs.Numbers.{Bytes}
+use Rattle.encoding.specs.Operations.{operationNumber}
 use Rattle.format.specs.Audit.{stateOf}
-use Rattle.format.specs.Batch.{commands, readBatch, perform, runAll, batch}
+use Rattle.encoding.specs.Batch.{commands, readBatch, operation, perform, runAll, batch}
+use Rattle.encoding.proofs.Performs.{AllSmall, perform-sound, run-sound, small-append}
 use Rattle.format.specs.Words.{lengthGood}
 use Rattle.pool.specs.Results.{prepareCode, preparedWords}
 use Rattle.updates.specs.Updating.{searchAnswer}
 use Rattle.set.specs.Set.{Passing, member}
-use Rattle.set.proofs.Members.{occurs-is, member-shown, settle-keeps-keys}
+use Rattle.tree.proofs.Moves.{settle-keeps-keys}
+use Rattle.set.proofs.Members.{member-shown}
 use Rattle.set.proofs.Passing.{passing-state}
 use Rattle.set.proofs.Promises.{prepare-passing, prepare-says, search-codes}
-use Rattle.demands.specs.Calls.{searchNumber, insertNumber, deleteNumber, Entry, entries, logOf, Bytes, Calls, no-call, then-call, tells, toldFrom, told, InsertedSince}
+use Rattle.demands.specs.Calls.{Entry, entries, logOf, Calls, no-call, then-call, tells, toldFrom, told, InsertedSince}
 use Rattle.demands.proofs.Told.{other-operation, other-key, other-code, tells-insert, tells-delete, told-append, told-exactly}
-use Rattle.demands.proofs.Runs.{Performs, as-none, as-search, as-insert, as-delete, as-step, as-settle, as-other, performs, AllSmall, small-append, perform-sound, run-sound, entry, entriesOf}
+use Rattle.demands.proofs.Runs.{entry, entriesOf}
 use Rattle.demands.proofs.Called.{Result, call-kept, call-did, call-result, call-ran, calls-passing}
 use Rattle.demands.proofs.Ends.{command-words}
 
 -- One command: what is in the set after it is what its entry tells.
 module _ (x : ℕ) (c : Command) (S : State) (sound : Sound S) where
-  -- the same keys
-  same-keys : (T : State) → keysOf (T .top) ≡ keysOf (S .top) → isIn x T ≡ isIn x S
-  same-keys T e = sym (occurs-is x (T .top)) ∙ (ap (countIn x) e ∙ occurs-is x (S .top))
-
-  insert-told : {o : Outcome} → c .operation ≡ insertNumber → InsertSays (c .first) S o → isIn x (o .after) ≡ tells x (entry c (o .answer)) (isIn x S)
-  unfolding occursTop
+  insert-told : {o : Outcome} → c .operation ≡ Insert → InsertSays (c .first) S o → isIn x (o .after) ≡ tells x (entry c (o .answer)) (isIn x S)
   insert-told op (present i) = sym (other-code x _ (isIn x S) (λ z. omega arith))
   insert-told op (no-room i h) = sym (other-code x _ (isIn x S) (λ z. omega arith))
   insert-told op (added {s} i h k f) = same-or-not (c .first) x
       (λ e. let z : isIn x S ≡ 0 = rw e at i in omega (arith, k x, one-same x (c .first) (sym e), tells-insert x (entry c (Done s)) (isIn x S) op e refl))
       (λ n. omega (arith, k x, one-other x (c .first) (λ e. n (sym e)), other-key x (entry c (Done s)) (isIn x S) n))
 
-  delete-told : {o : Outcome} → c .operation ≡ deleteNumber → DeleteSays (c .first) S o → isIn x (o .after) ≡ tells x (entry c (o .answer)) (isIn x S)
+  delete-told : {o : Outcome} → c .operation ≡ Delete → DeleteSays (c .first) S o → isIn x (o .after) ≡ tells x (entry c (o .answer)) (isIn x S)
   delete-told op (absent i) = sym (other-code x _ (isIn x S) (λ z. omega arith))
   delete-told op (removed {n = m} i l k) = same-or-not (c .first) x
       (λ e. let z : isIn x S ≡ 1 = rw e at i in omega (arith, k x, one-same x (c .first) (sym e), tells-delete x (entry c (Done m)) (isIn x S) op e refl))
       (λ n. omega (arith, k x, one-other x (c .first) (λ e. n (sym e)), other-key x (entry c (Done m)) (isIn x S) n))
 
   perform-told : isIn x ((perform c S) .after) ≡ tells x (entry c ((perform c S) .answer)) (isIn x S)
-  perform-told = go (performs c S)
+  unfolding perform operation
+  perform-told = go (c .operation) refl
     where
-      go : {o : Outcome} → Performs c S o → isIn x (o .after) ≡ tells x (entry c (o .answer)) (isIn x S)
-      go (as-none e) = sym (other-operation x _ (isIn x S) (λ z. omega arith) (λ z. omega arith))
-      go (as-search e) = ap (isIn x) (search-kept (c .first) S sound) ∙ sym (other-operation x _ (isIn x S) (λ z. omega arith) (λ z. omega arith))
-      go (as-insert e) = insert-told e (insert-says (c .first) S sound)
-      go (as-delete e) = delete-told e (delete-says (c .first) S sound)
-      go (as-step e) = same-keys ((step (c .first) (c .second) S) .after) (step-keeps-keys (c .first) (c .second) S sound) ∙ sym (other-operation x _ (isIn x S) (λ z. omega arith) (λ z. omega arith))
-      go (as-settle e) = same-keys ((settle (c .first) S) .after) (settle-keeps-keys S (c .first) sound) ∙ sym (other-operation x _ (isIn x S) (λ z. omega arith) (λ z. omega arith))
-      go (as-other e) = sym (other-operation x _ (isIn x S) (λ z. omega arith) (λ z. omega arith))
+      -- search, step and settle move no key
+      same : (o : Operation) → c .operation ≡ o → operationNumber o ≢ operationNumber Insert → operationNumber o ≢ operationNumber Delete → (a : Answer) {n : ℕ}
+          → n ≡ isIn x S → n ≡ tells x (entry c a) (isIn x S)
+      same o e f g a h =
+          let number = ap operationNumber e in
+          h ∙ sym (other-operation x _ (isIn x S) (λ z. f (sym number ∙ z)) (λ z. g (sym number ∙ z)))
+
+      go : (o : Operation) → c .operation ≡ o
+          → isIn x ((operation o (c .first) (c .second) S) .after) ≡ tells x (entry c ((operation o (c .first) (c .second) S) .answer)) (isIn x S)
+      go Search e = same Search e (λ z. omega arith) (λ z. omega arith) ((search (c .first) S) .answer) (ap (isIn x) (search-kept (c .first) S sound))
+      go Insert e = insert-told e (insert-says (c .first) S sound)
+      go Delete e = delete-told e (delete-says (c .first) S sound)
+      go Step e = same Step e (λ z. omega arith) (λ z. omega arith) ((step (c .first) (c .second) S) .answer) (ap (countIn x) (step-keeps-keys (c .first) (c .second) S sound))
+      go Settle e = same Settle e (λ z. omega arith) (λ z. omega arith) ((settle (c .first) S) .answer) (ap (countIn x) (settle-keeps-keys S (c .first) sound))
 
 -- a search command searches
-searches : {c : Command} {S : State} {o : Outcome} → Performs c S o → c .operation ≡ searchNumber → codeOf (o .answer) ≡ codeOf ((search (c .first) S) .answer)
-searches (as-none e) op = absurd (omega arith)
-searches (as-search e) op = refl
-searches (as-insert e) op = absurd (omega arith)
-searches (as-delete e) op = absurd (omega arith)
-searches (as-step e) op = absurd (omega arith)
-searches (as-settle e) op = absurd (omega arith)
-searches (as-other e) op = absurd (omega arith)
+searches : (c : Command) (S : State) → c .operation ≡ Search → (perform c S) .answer ≡ (search (c .first) S) .answer
+unfolding perform operation
+searches c S op = rw op
 
 -- All commands of a call.
 run-told : (x : ℕ) (cs : List Command) (S : State) → AllSmall cs → Sound S → isIn x (runAll cs S) ≡ toldFrom x (isIn x S) (entriesOf cs S)
@@ -138,7 +142,7 @@ module _ (w : List ℕ) {q : List ℕ} {log : List Entry} (prepared : prepareCod
   -- A search for x in a further call, after the commands `before` of that call: code 0 exactly when the log up to there tells x.
   module _ (bytes out : List ℕ) (b : Bytes bytes) (given : (batch q bytes out) .code ≡ 0) where
     pub search-tells : (before : List Command) (c : Command) (rest : List Command) → readBatch bytes ≡ commands (before ++ (c ∷ rest))
-        → c .operation ≡ searchNumber
+        → c .operation ≡ Search
         → (getD ((batch q bytes out) .answers) (2 * length before) 0 ≡ 0) ↔ (told (c .first) (log ++ entries before ((batch q bytes out) .answers)) ≡ 1)
     search-tells before c rest read op =
         let x = c .first in
@@ -148,7 +152,7 @@ module _ (w : List ℕ) {q : List ℕ} {log : List Entry} (prepared : prepareCod
         let small = small-append before (c ∷ rest) (R .small) .0 in
         let sound : Sound S = run-sound before (stateOf q) small (R .sound) in
         let w = command-words g bytes out b given before c rest read in
-        let code-is : codeOf ((perform c S) .answer) ≡ codeOf ((search x S) .answer) = searches (performs c S) op in
+        let code-is : codeOf ((perform c S) .answer) ≡ codeOf ((search x S) .answer) = ap codeOf (searches c S op) in
         let in-is : isIn x S ≡ told x (log ++ entries before ((batch q bytes out) .answers)) =
         run-told x before (stateOf q) small (R .sound)
         ∙ (ap (λ (n : ℕ). toldFrom x n (entriesOf before (stateOf q))) (sym (member-state g x) ∙ history x)

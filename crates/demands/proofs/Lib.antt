@@ -1,4 +1,3 @@
-pub mod Endings
 pub mod Runs
 pub mod Called
 pub mod Ends

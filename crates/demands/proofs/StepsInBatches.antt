@@ -8,79 +8,66 @@ use mathlib.Core.Logic.{_≢_}
 use mathlib.Core.Bool.{Bool, true, false}
 use mathlib.Core.List.{List, [], _∷_, _++_}
 use lib.Dec.{eqb}
-use borrow.Author.Tests.{eq-eqb, ne-eqb}
+use borrow.Author.Tests.{ne-eqb}
 use native.Mathlib.Omega.{arith}
 use Prim.Native.Nat.{ℕ, _+_, _≤_}
 use Rattle.tree.specs.declared.Answer.the-variants.{Done, Refused}
-use Rattle.tree.specs.declared.Refusal.{Refusal}
-use Rattle.tree.specs.declared.Refusal.the-variants.{PoolLength, RulesBroken, BadCommand, FewAnswers, KeyPresent, KeyAbsent, NoRoom, NoInnerNode, NoSuchKind, ConditionFalse, LevelLimit}
+use Rattle.tree.specs.declared.Refusal.the-variants.{KeyAbsent}
 use Rattle.tree.specs.Codes.{kindNumber, code}
+use Rattle.tree.proofs.KindNumbers.{refusal-some}
 use Rattle.tree.specs.State.{State, Sound, Outcome, refuses, search, insert, delete, step}
 use Rattle.tree.specs.Settle.{settle}
 use Rattle.tree.proofs.Updated.{search-kept, insert-kept, delete-kept}
-use Rattle.tree.proofs.StepState.{Stepping, refused as step-refused, taken as step-taken, stepping}
+use Rattle.tree.proofs.StepState.{StepCase, refused as step-refused, taken as step-taken, stepping}
 use Rattle.tree.proofs.Demand3.{boundOf, accepted-falls}
-use Rattle.format.specs.declared.Command.{Command}
+use Rattle.tree.proofs.SettleAnswers.{settle-state-falls}
+use Rattle.encoding.specs.declared.Operation.{Operation}
+use Rattle.encoding.specs.declared.Operation.the-variants.{Search, Insert, Delete, Step, Settle}
+use Rattle.encoding.specs.declared.Command.{Command}
+use Rattle.encoding.specs.Numbers.{Bytes}
 use Rattle.format.specs.Audit.{stateOf}
-use Rattle.format.specs.Batch.{perform, runAll, batch}
+use Rattle.encoding.specs.Batch.{operation, perform, runAll, batch}
+use Rattle.encoding.proofs.Performs.{AllSmall, perform-sound}
 use Rattle.set.specs.Set.{Passing}
 use Rattle.set.specs.Balance.{boundNumber}
 use Rattle.set.proofs.Passing.{passing-state}
-use Rattle.set.proofs.Balancing.{bound-shown, settle-state-falls}
-use Rattle.demands.specs.Calls.{stepNumber, settleNumber, Entry, logOf, Bytes, Calls, no-call, then-call, stepsOf, stepsIn, NoUpdate, NoUpdates}
-use Rattle.demands.proofs.Runs.{Performs, as-none, as-search, as-insert, as-delete, as-step, as-settle, as-other, performs, AllSmall, perform-sound, entry, entriesOf}
+use Rattle.set.proofs.Balancing.{bound-shown}
+use Rattle.demands.specs.Calls.{Entry, logOf, Calls, no-call, then-call, isOf, stepsOf, stepsIn, NoUpdate, NoUpdates}
+use Rattle.demands.proofs.Runs.{entry, entriesOf}
 use Rattle.demands.proofs.Called.{Result, call-kept, call-did, call-result, calls-passing}
 
--- The steps of an entry: none of another operation, at most one of a step, and of a settle at most its number.
+-- The steps of an entry: of a step at most one, and none if it is refused; of a settle its number.
 module _ (e : Entry) where
-  steps-other : e .command .operation ≢ stepNumber → e .command .operation ≢ settleNumber → stepsOf e ≡ 0
-  unfolding stepsOf
-  steps-other f g = rw (ne-eqb _ _ f, stepsOf, ne-eqb _ _ g)
+  no-settle : e .command .operation ≡ Step → isOf Settle e ≡ false
+  unfolding isOf
+  no-settle f = rw f
 
-  steps-one : e .command .operation ≡ stepNumber → stepsOf e ≤ 1
-  unfolding stepsOf
+  steps-one : e .command .operation ≡ Step → stepsOf e ≤ 1
+  unfolding stepsOf isOf
   steps-one f = go (eqb (e .code) 0) refl
     where
       go : (b : Bool) → eqb (e .code) 0 ≡ b → stepsOf e ≤ 1
-      go true h = rw (eq-eqb _ _ f, stepsOf, h) (omega arith)
-      go false h = rw (eq-eqb _ _ f, stepsOf, h, ne-eqb (e .command .operation) settleNumber (λ z. omega arith)) (omega arith)
+      go true h = rw (f, stepsOf, h) (omega arith)
+      go false h = rw (f, stepsOf, h, no-settle f) (omega arith)
 
-  steps-refused : e .command .operation ≡ stepNumber → e .code ≢ 0 → stepsOf e ≡ 0
-  unfolding stepsOf
-  steps-refused f n = rw (eq-eqb _ _ f, stepsOf, ne-eqb (e .code) 0 n, ne-eqb (e .command .operation) settleNumber (λ z. omega arith))
+  steps-refused : e .command .operation ≡ Step → e .code ≢ 0 → stepsOf e ≡ 0
+  unfolding stepsOf isOf
+  steps-refused f n = rw (f, stepsOf, ne-eqb (e .code) 0 n, no-settle f)
 
-  steps-settle : e .command .operation ≢ stepNumber → stepsOf e ≤ e .number
-  unfolding stepsOf
-  steps-settle f = go (eqb (e .command .operation) settleNumber) refl
-    where
-      go : (b : Bool) → eqb (e .command .operation) settleNumber ≡ b → stepsOf e ≤ e .number
-      go true h = rw (ne-eqb _ _ f, stepsOf, h) (omega arith)
-      go false h = rw (ne-eqb _ _ f, stepsOf, h) (omega arith)
-
--- a refusal's code is not 0
-refusal-some : (f : Refusal) → code f ≢ 0
-refusal-some PoolLength z = omega arith
-refusal-some RulesBroken z = omega arith
-refusal-some BadCommand z = omega arith
-refusal-some FewAnswers z = omega arith
-refusal-some KeyPresent z = omega arith
-refusal-some KeyAbsent z = omega arith
-refusal-some NoRoom z = omega arith
-refusal-some NoInnerNode z = omega arith
-refusal-some NoSuchKind z = omega arith
-refusal-some ConditionFalse z = omega arith
-refusal-some LevelLimit z = omega arith
+  steps-settle : e .command .operation ≡ Settle → stepsOf e ≡ e .number
+  unfolding stepsOf isOf
+  steps-settle f = rw f
 
 -- One command, of a sound State: its steps lower the bound.
 module _ (c : Command) (S : State) (sound : Sound S) where
   abbrev Falls : Outcome → Type 0
   Falls o = stepsOf (entry c (o .answer)) + boundOf (o .after) ≤ boundOf S
 
-  -- a command that is no step and leaves the State as it was
-  falls-kept : (o : Outcome) → c .operation ≢ stepNumber → c .operation ≢ settleNumber → o .after ≡ S → Falls o
-  falls-kept o f g k = let b : boundOf (o .after) ≡ boundOf S = ap boundOf k in omega (arith, steps-other (entry c (o .answer)) f g)
+  -- a command that takes no step and leaves the State as it was
+  falls-kept : (o : Outcome) → stepsOf (entry c (o .answer)) ≡ 0 → o .after ≡ S → Falls o
+  falls-kept o f k = let b : boundOf (o .after) ≡ boundOf S = ap boundOf k in omega (arith, f)
 
-  step-falls : c .operation ≡ stepNumber → {o : Outcome} → Stepping (c .first) (c .second) S o → step (c .first) (c .second) S ≡ o → Falls o
+  step-falls : c .operation ≡ Step → {o : Outcome} → StepCase (c .first) (c .second) S o → step (c .first) (c .second) S ≡ o → Falls o
   step-falls op (step-refused {f} r) e = omega (arith, steps-refused (entry c (Refused f)) op (refusal-some f))
   step-falls op (step-taken {t} {k} a i n b) e =
       let f = accepted-falls (c .first) (c .second) (kindNumber k) S sound (ap (λ (o : Outcome). o .answer) e) in
@@ -88,17 +75,15 @@ module _ (c : Command) (S : State) (sound : Sound S) where
       omega (arith, steps-one (entry c (Done (kindNumber k))) op)
 
   perform-falls : NoUpdate (entry c ((perform c S) .answer)) → Falls (perform c S)
-  perform-falls u = go (performs c S) u
+  unfolding perform operation stepsOf isOf
+  perform-falls u = go (c .operation) refl u
     where
-      go : {o : Outcome} → Performs c S o → NoUpdate (entry c (o .answer)) → Falls o
-      go (as-none e) u = falls-kept (refuses KeyAbsent S) (λ z. omega arith) (λ z. omega arith) refl
-      go (as-search e) u = falls-kept (search (c .first) S) (λ z. omega arith) (λ z. omega arith) (search-kept (c .first) S sound)
-      go (as-insert e) u = falls-kept (insert (c .first) S) (λ z. omega arith) (λ z. omega arith) (insert-kept (c .first) S sound (λ z. u .no-insert z e))
-      go (as-delete e) u = falls-kept (delete (c .first) S) (λ z. omega arith) (λ z. omega arith) (delete-kept (c .first) S sound (λ z. u .no-delete z e))
-      go (as-step e) u = step-falls e (stepping (c .first) (c .second) S) refl
-      go (as-other e) u = falls-kept (refuses KeyAbsent S) (λ z. omega arith) (λ z. omega arith) refl
-      go (as-settle e) u =
-          omega (arith, steps-settle (entry c ((settle (c .first) S) .answer)) (λ z. omega arith), settle-state-falls S (c .first) sound)
+      go : (o : Operation) → c .operation ≡ o → NoUpdate (entry c ((operation o (c .first) (c .second) S) .answer)) → Falls (operation o (c .first) (c .second) S)
+      go Search e u = falls-kept (search (c .first) S) (rw e) (search-kept (c .first) S sound)
+      go Insert e u = falls-kept (insert (c .first) S) (rw e) (insert-kept (c .first) S sound (λ z. u .no-insert z e))
+      go Delete e u = falls-kept (delete (c .first) S) (rw e) (delete-kept (c .first) S sound (λ z. u .no-delete z e))
+      go Step e u = step-falls e (stepping (c .first) (c .second) S) refl
+      go Settle e u = omega (arith, steps-settle (entry c ((settle (c .first) S) .answer)) e, settle-state-falls S (c .first) sound)
 
 -- All commands of a call, and any number of calls.
 run-falls : (cs : List Command) (S : State) → AllSmall cs → Sound S → NoUpdates (entriesOf cs S) → stepsIn (entriesOf cs S) + boundOf (runAll cs S) ≤ boundOf S

@@ -7,16 +7,19 @@ use mathlib.Core.List.{List, [], _∷_, _++_}
 use borrow.Author.Tests.{eq-eqb, ne-eqb}
 use native.Mathlib.Omega.{arith}
 use Prim.Native.Nat.{ℕ}
-use Rattle.demands.specs.Calls.{insertNumber, deleteNumber, Entry, accepted, tells, toldFrom, told, NoneAccepted, InsertedSince}
+use Rattle.encoding.specs.declared.Operation.the-variants.{Insert, Delete}
+use Rattle.encoding.specs.Operations.{operationNumber}
+use Rattle.demands.specs.Calls.{Entry, isOf, accepted, tells, toldFrom, told, NoneAccepted, InsertedSince}
 
 -- What an entry tells of x: nothing new, unless it is an accepted insert or delete of x.
 module _ (x : ℕ) (e : Entry) (before : ℕ) where
-  tells-kept : accepted insertNumber x e ≡ false → accepted deleteNumber x e ≡ false → tells x e before ≡ before
+  tells-kept : accepted Insert x e ≡ false → accepted Delete x e ≡ false → tells x e before ≡ before
   unfolding tells
   tells-kept f g = rw (f, tells, g)
 
-  pub other-operation : e .command .operation ≢ insertNumber → e .command .operation ≢ deleteNumber → tells x e before ≡ before
-  unfolding accepted
+  pub other-operation : operationNumber (e .command .operation) ≢ operationNumber Insert → operationNumber (e .command .operation) ≢ operationNumber Delete
+      → tells x e before ≡ before
+  unfolding accepted isOf
   other-operation f g = tells-kept (rw (ne-eqb _ _ f)) (rw (ne-eqb _ _ g))
 
   pub other-key : e .command .first ≢ x → tells x e before ≡ before
@@ -27,15 +30,15 @@ module _ (x : ℕ) (e : Entry) (before : ℕ) where
   unfolding accepted
   other-code f = tells-kept (rw (ne-eqb _ _ f, and-false)) (rw (ne-eqb _ _ f, and-false))
 
-  pub tells-insert : e .command .operation ≡ insertNumber → e .command .first ≡ x → e .code ≡ 0 → tells x e before ≡ 1
-  unfolding accepted tells
-  tells-insert o k c = rw (eq-eqb _ _ o, eq-eqb _ _ k, eq-eqb _ _ c, tells)
+  pub tells-insert : e .command .operation ≡ Insert → e .command .first ≡ x → e .code ≡ 0 → tells x e before ≡ 1
+  unfolding accepted isOf tells
+  tells-insert o k c = rw (o, eq-eqb _ _ k, eq-eqb _ _ c, tells)
 
-  pub tells-delete : e .command .operation ≡ deleteNumber → e .command .first ≡ x → e .code ≡ 0 → tells x e before ≡ 0
-  unfolding accepted tells
+  pub tells-delete : e .command .operation ≡ Delete → e .command .first ≡ x → e .code ≡ 0 → tells x e before ≡ 0
+  unfolding accepted isOf tells
   tells-delete o k c =
-      let n : accepted insertNumber x e ≡ false = rw (ne-eqb (e .command .operation) insertNumber (λ z. omega arith)) in
-      rw (n, tells, eq-eqb _ _ o, eq-eqb _ _ k, eq-eqb _ _ c)
+      let n : accepted Insert x e ≡ false = rw o in
+      rw (n, tells, o, eq-eqb _ _ k, eq-eqb _ _ c)
 
 pub told-append : (x before : ℕ) (l m : List Entry) → toldFrom x before (l ++ m) ≡ toldFrom x (toldFrom x before l) m
 unfolding toldFrom
@@ -44,16 +47,16 @@ told-append x before (e ∷ l) m = told-append x (tells x e before) l m
 
 -- An accepted insert of x tells 1, whatever was before; with no accepted delete since, that stays.
 module _ (x : ℕ) where
-  insert-tells : (e : Entry) (before : ℕ) → accepted insertNumber x e ≡ true → tells x e before ≡ 1
+  insert-tells : (e : Entry) (before : ℕ) → accepted Insert x e ≡ true → tells x e before ≡ 1
   unfolding tells
   insert-tells e before f = rw (f, tells)
 
-  none-stays : (before : ℕ) (log : List Entry) → before ≡ 1 → NoneAccepted deleteNumber x log → toldFrom x before log ≡ 1
+  none-stays : (before : ℕ) (log : List Entry) → before ≡ 1 → NoneAccepted Delete x log → toldFrom x before log ≡ 1
   unfolding toldFrom NoneAccepted
   none-stays before [] h n = h
-  none-stays before (e ∷ log) h n = none-stays (tells x e before) log (go (accepted insertNumber x e) refl) (n .1)
+  none-stays before (e ∷ log) h n = none-stays (tells x e before) log (go (accepted Insert x e) refl) (n .1)
     where
-      go : (b : Bool) → accepted insertNumber x e ≡ b → tells x e before ≡ 1
+      go : (b : Bool) → accepted Insert x e ≡ b → tells x e before ≡ 1
       go true f = insert-tells e before f
       go false f = tells-kept x e before f (n .0) ∙ h
 
@@ -64,14 +67,14 @@ module _ (x : ℕ) where
 
   -- The other way, entry by entry: it was so before and no delete came, or it was inserted since.
   Either : ℕ → List Entry → Type 0
-  Either before log = ((before ≡ 1) × NoneAccepted deleteNumber x log) ⊎ InsertedSince x log
+  Either before log = ((before ≡ 1) × NoneAccepted Delete x log) ⊎ InsertedSince x log
 
   told-either : (before : ℕ) (log : List Entry) → toldFrom x before log ≡ 1 → Either before log
   unfolding toldFrom NoneAccepted tells Either
   told-either before [] h = inl (h, tt)
-  told-either before (e ∷ log) h = go (accepted insertNumber x e) refl (accepted deleteNumber x e) refl (told-either (tells x e before) log h)
+  told-either before (e ∷ log) h = go (accepted Insert x e) refl (accepted Delete x e) refl (told-either (tells x e before) log h)
     where
-      go : (a : Bool) → accepted insertNumber x e ≡ a → (b : Bool) → accepted deleteNumber x e ≡ b → Either (tells x e before) log → Either before (e ∷ log)
+      go : (a : Bool) → accepted Insert x e ≡ a → (b : Bool) → accepted Delete x e ≡ b → Either (tells x e before) log → Either before (e ∷ log)
       go a f b g (inr s) = inr (record {
         earlier = e ∷ s .earlier;
         insertion = s .insertion;

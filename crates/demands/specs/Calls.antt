@@ -6,27 +6,15 @@ use mathlib.Core.Bool.{Bool, true, false, _&&_}
 use mathlib.Core.List.{List, [], _∷_, _++_}
 use lib.Dec.{eqb}
 use lib.ListN.{getD, drop}
-use Prim.Native.Nat.{ℕ, _+_, _<_}
-use Rattle.format.specs.declared.Command.{Command}
+use Prim.Native.Nat.{ℕ, _+_}
+use Rattle.encoding.specs.declared.Operation.{Operation}
+use Rattle.encoding.specs.declared.Operation.the-variants.{Insert, Delete, Step, Settle}
+use Rattle.encoding.specs.declared.Command.{Command}
+use Rattle.encoding.specs.Numbers.{Bytes}
+use Rattle.encoding.specs.Operations.{operationNumber}
 use Rattle.format.specs.Words.{wordsOf}
 use Rattle.format.specs.Audit.{stateOf}
-use Rattle.format.specs.Batch.{Batch, commands, badAt, readBatch, runAll, Call, batch}
-
--- 01, The batch: "1 search key; 2 insert key; 3 delete key; 4 step slot kind; 5 settle budget"
-abbrev pub searchNumber : ℕ
-searchNumber = 1
-
-abbrev pub insertNumber : ℕ
-insertNumber = 2
-
-abbrev pub deleteNumber : ℕ
-deleteNumber = 3
-
-abbrev pub stepNumber : ℕ
-stepNumber = 4
-
-abbrev pub settleNumber : ℕ
-settleNumber = 5
+use Rattle.encoding.specs.Batch.{Batch, commands, badAt, readBatch, runAll, Call, batch}
 
 -- a command that ran, with its answer's code and number
 pub record Entry : Type 0 where
@@ -47,23 +35,22 @@ logRead (commands cs) r = elim (eqb (r .code) 0) [ true ↦ entries cs (r .answe
 unfoldable pub logOf : (p bytes out : List ℕ) → List Entry
 logOf p bytes out = logRead (readBatch bytes) (batch p bytes out)
 
--- every byte is one
-abbrev pub Bytes : List ℕ → Type 0
-Bytes bytes = (i : ℕ) → getD bytes i 0 < 256
-
 -- Batch calls one after the other, from the words p to the words q: with any bytes and any answer words, refused ones among them.
 pub data Calls (p : List ℕ) : List Entry → List ℕ → Type 0 where
   no-call : Calls p [] p
   then-call : {log : List Entry} {q : List ℕ} → Calls p log q → (bytes out : List ℕ) → Bytes bytes → Calls p (log ++ logOf q bytes out) ((batch q bytes out) .pool)
 
--- an entry that is this operation on this key, accepted: with code 0
-unfoldable pub accepted : ℕ → ℕ → Entry → Bool
-accepted operation x e = eqb (e .command .operation) operation && eqb (e .command .first) x && eqb (e .code) 0
+-- an entry that is this operation; on this key; accepted: with code 0
+unfoldable pub isOf : Operation → Entry → Bool
+isOf o e = eqb (operationNumber (e .command .operation)) (operationNumber o)
+
+unfoldable pub accepted : Operation → ℕ → Entry → Bool
+accepted o x e = isOf o e && eqb (e .command .first) x && eqb (e .code) 0
 
 -- Demand 2: the keys "inserted with code 0 and not since deleted with code 0". Whether x is one after an entry (1, or 0), if `before`
 -- says whether it was one before; and after a whole log.
 unfoldable pub tells : ℕ → Entry → ℕ → ℕ
-tells x e before = elim (accepted insertNumber x e) [ true ↦ 1 | false ↦ elim (accepted deleteNumber x e) [ true ↦ 0 | false ↦ before ] ]
+tells x e before = elim (accepted Insert x e) [ true ↦ 1 | false ↦ elim (accepted Delete x e) [ true ↦ 0 | false ↦ before ] ]
 
 unfoldable pub toldFrom : ℕ → ℕ → List Entry → ℕ
 toldFrom x before [] = before
@@ -73,24 +60,21 @@ abbrev pub told : ℕ → List Entry → ℕ
 told x log = toldFrom x 0 log
 
 -- The same as a sentence: somewhere an accepted insert of x, and since then no accepted delete of x. (`told-exactly`: it is the same.)
-unfoldable pub NoneAccepted : ℕ → ℕ → List Entry → Type 0
-NoneAccepted operation x [] = Unit {0}
-NoneAccepted operation x (e ∷ log) = (accepted operation x e ≡ false) × NoneAccepted operation x log
+unfoldable pub NoneAccepted : Operation → ℕ → List Entry → Type 0
+NoneAccepted o x [] = Unit {0}
+NoneAccepted o x (e ∷ log) = (accepted o x e ≡ false) × NoneAccepted o x log
 
 pub record InsertedSince (x : ℕ) (log : List Entry) : Type 0 where
   pub earlier : List Entry
   pub insertion : Entry
   pub later : List Entry
   pub log-is : log ≡ earlier ++ (insertion ∷ later)
-  pub is-accepted : accepted insertNumber x insertion ≡ true
-  pub none-since : NoneAccepted deleteNumber x later
+  pub is-accepted : accepted Insert x insertion ≡ true
+  pub none-since : NoneAccepted Delete x later
 
 -- Demand 3: the accepted steps of an entry, a step with code 0 or the steps that a settle reports; and of a whole log.
 unfoldable pub stepsOf : Entry → ℕ
-stepsOf e = elim (eqb (e .command .operation) stepNumber && eqb (e .code) 0) [
-  | true ↦ 1
-  | false ↦ elim (eqb (e .command .operation) settleNumber) [ true ↦ e .number | false ↦ 0 ]
-]
+stepsOf e = elim (isOf Step e && eqb (e .code) 0) [ true ↦ 1 | false ↦ elim (isOf Settle e) [ true ↦ e .number | false ↦ 0 ] ]
 
 unfoldable pub stepsIn : List Entry → ℕ
 stepsIn [] = 0
@@ -98,8 +82,8 @@ stepsIn (e ∷ log) = stepsOf e + stepsIn log
 
 -- no insert and no delete among the accepted ones
 pub record NoUpdate (e : Entry) : Type 0 where
-  pub no-insert : e .code ≡ 0 → e .command .operation ≢ insertNumber
-  pub no-delete : e .code ≡ 0 → e .command .operation ≢ deleteNumber
+  pub no-insert : e .code ≡ 0 → e .command .operation ≢ Insert
+  pub no-delete : e .code ≡ 0 → e .command .operation ≢ Delete
 
 unfoldable pub NoUpdates : List Entry → Type 0
 NoUpdates [] = Unit {0}

@@ -3,103 +3,31 @@
 -- be carried along or tested slot by slot.
 -- A slot twice in the tree has one subtree on both sides of a router, or inside itself; the order and the size rule that out. A
 -- slot twice on the chain would make the chain longer than itself. A slot of both would weigh 4,294,967,295 and at most 255. And as
--- many different slots from 1 to C as C are all of them: the counts of the slots 1 to C add up to C and none is above 1.
+-- many different slots from 1 to C as C are all of them (tree's Totals.antt).
 -- Assumes nothing.
-use mathlib.Core.Path.{_≡_, refl, ap, sym, _∙_}
+use mathlib.Core.Path.{_≡_, ap, sym, _∙_}
 use mathlib.Core.Bool.{true}
-use mathlib.Core.List.{List, [], _∷_}
+use mathlib.Core.List.{List, _∷_}
 use lib.Dec.{eqb}
 use lib.ListN.{length}
-use Prim.Native.Nat.{ℕ, zero, suc, _+_, _*_, _≤_, _<_}
+use Prim.Native.Nat.{ℕ, suc, _+_, _*_, _≤_, _<_}
 use native.Mathlib.Omega.{arith}
 use native.Mathlib.Decide.{decLe}
+use Rattle.format.specs.declared.Header.{Header}
 use Rattle.format.specs.declared.Slot.{Slot}
-use Rattle.format.specs.Words.{headerOf, slotAt, slotsIn, lengthGood, freeWeight, rootOf, spareOf, shownHeader}
+use Rattle.format.specs.Words.{slotAt, slotsIn, lengthGood, freeWeight, rootOf, spareOf, shownHeader}
 use Rattle.format.specs.Shows.{At, Holds, holds-leaf, holds-node, HoldsTop, Chain, chain-end, chain-more, Shows}
 use Rattle.tree.specs.Codes.{mostSlots, mostLevel}
 use Rattle.tree.specs.Tree.{Tree, leaf, node, slotOf, size, one, count, countIn, Ordered, level, Chromatic}
 use Rattle.tree.specs.State.{State, state, Top, empty, full, nodes, countTop, keyEnd, GoodTop, Sound}
 use Rattle.format.proofs.Slots.{header-eq}
 use Rattle.tree.proofs.Order.{ordered-bounds, ordered-widen}
-use Rattle.tree.proofs.Counts.{OneOf, same-or-not, one-same, one-other, one-most, is-same, in-node, in-chain}
+use Rattle.tree.proofs.Counts.{OneOf, one-other, one-most, is-same, in-node, in-chain}
+use Rattle.tree.proofs.Totals.{total, total-add, total-all, total-top, total-chain, size-within}
+use Rattle.tree.proofs.SoundStates.{sound-total}
 use Rattle.format.proofs.Frame.{holds-one, chain-one, holds-at, chain-at, chain-head}
 use Rattle.format.proofs.Replace.{In, top, in-left, in-right, in-holds, find-slot}
-use Rattle.format.proofs.Shown.{sound-within, shows-root, shows-free, shows-nodes, shows-spare, shows-length-good, good-length}
-
--- The numbers f 1 to f n added up.
-total : (ℕ → ℕ) → ℕ → ℕ
-total f zero = 0
-total f (suc n) = total f n + f (suc n)
-
-total-add : (f g : ℕ → ℕ) (n : ℕ) → total (λ s. f s + g s) n ≡ total f n + total g n
-unfolding total
-total-add f g zero = refl
-total-add f g (suc n) = omega (arith, total-add f g n)
-
-total-none : (n : ℕ) → total (λ s. 0) n ≡ 0
-unfolding total
-total-none zero = refl
-total-none (suc n) = omega (arith, total-none n)
-
-total-most : (f : ℕ → ℕ) (n : ℕ) → ((s : ℕ) → f s ≤ 1) → total f n ≤ n
-unfolding total
-total-most f zero h = omega arith
-total-most f (suc n) h = omega (arith, total-most f n h, h (suc n))
-
-total-each : (f : ℕ → ℕ) (n : ℕ) → ((s : ℕ) → 1 ≤ s → s ≤ n → f s ≡ 1) → total f n ≡ n
-unfolding total
-total-each f zero h = refl
-total-each f (suc n) h = omega (arith, total-each f n (λ s l m. h s l (omega arith)), h (suc n) (omega arith) (omega arith))
-
--- n numbers of at most 1 that add up to n are 1 each
-total-all : (f : ℕ → ℕ) (n : ℕ) → ((s : ℕ) → f s ≤ 1) → total f n ≡ n → (s : ℕ) → 1 ≤ s → s ≤ n → f s ≡ 1
-unfolding total
-total-all f zero h e s l m = absurd (omega arith)
-total-all f (suc n) h e s l m =
-    let most = total-most f n h in
-    let last = h (suc n) in
-    same-or-not s (suc n)
-    (λ d. rw d (omega arith))
-    (λ d. total-all f n h (omega arith) s l (omega arith))
-
--- the slots of a tree, and of a chain, counted
-total-past : (v n : ℕ) → n < v → total (λ s. one (eqb s v)) n ≡ 0
-unfolding total
-total-past v zero h = refl
-total-past v (suc n) h = omega (arith, total-past v n (omega arith), one-other (suc n) v (omega arith))
-
-total-one : (v n : ℕ) → 1 ≤ v → v ≤ n → total (λ s. one (eqb s v)) n ≡ 1
-unfolding total
-total-one v zero l h = absurd (omega arith)
-total-one v (suc n) l h = same-or-not (suc n) v
-    (λ e. omega (arith, one-same (suc n) v e, total-past v n (omega arith)))
-    (λ d. omega (arith, one-other (suc n) v d, total-one v n l (omega arith)))
-
-total-tree : (t : Tree) (n : ℕ) → ((s : ℕ) → 1 ≤ count s t → OneOf n s) → total (λ s. count s t) n ≡ size t
-unfolding count size
-total-tree (leaf v k) n h = let i = h v (omega (arith, one-same v v refl)) in total-one v n (i .from-one) (i .to-last)
-total-tree (node v k wl l wr r) n h =
-    let i = h v (omega (arith, one-same v v refl)) in
-    omega (
-      arith,
-      total-add (λ s. one (eqb s v) + count s l) (λ s. count s r) n,
-      total-add (λ s. one (eqb s v)) (λ s. count s l) n,
-      total-one v n (i .from-one) (i .to-last),
-      total-tree l n (λ s j. h s (omega arith)),
-      total-tree r n (λ s j. h s (omega arith)),
-    )
-
-total-chain : (fs : List ℕ) (n : ℕ) → ((s : ℕ) → 1 ≤ countIn s fs → OneOf n s) → total (λ s. countIn s fs) n ≡ length fs
-unfolding countIn
-total-chain [] n h = total-none n
-total-chain (v ∷ fs) n h =
-    let i = h v (omega (arith, one-same v v refl)) in
-    omega (arith, total-add (λ s. one (eqb s v)) (λ s. countIn s fs) n, total-one v n (i .from-one) (i .to-last), total-chain fs n (λ s j. h s (omega arith)))
-
-total-top : (t : Top) (n : ℕ) → ((s : ℕ) → 1 ≤ countTop s t → OneOf n s) → total (λ s. countTop s t) n ≡ nodes t
-unfolding countTop nodes
-total-top empty n h = total-none n
-total-top (full t) n h = total-tree t n h
+use Rattle.format.proofs.Shown.{shows-root, shows-free, shows-nodes, shows-spare, shows-length-good, good-length}
 
 -- The order: no tree lies on both sides of a number.
 one-side : (lo m hi : ℕ) (t : Tree) → Ordered lo m t → Ordered m hi t → ⊥
@@ -203,25 +131,10 @@ chain-heavy (chain-more {s = v} {fs = fs} h c) s i = in-chain s v fs i (λ e. rw
 
 -- What has a place in n slots is no more than n.
 up-to : {p : List ℕ} {s n : ℕ} {c : Slot} → length p ≡ 4 + 4 * n → At p s c → OneOf n s
-up-to e h = omega (arith, h .from-one, h .room)
+up-to e h = omega (arith, h .from-one, h .inside)
 
 pub tree-fits : {p : List ℕ} {w : ℕ} {t : Tree} → Holds p w t → (lo hi : ℕ) → Ordered lo hi t → (n : ℕ) → length p ≡ 4 + 4 * n → size t ≤ n
-tree-fits {t} h lo hi o n e = omega (arith, total-tree t n (λ s i. up-to e (holds-at h s i)), total-most (λ s. count s t) n (ordered-once h lo hi o))
-
-pub chain-fits : {p : List ℕ} {a : ℕ} {fs : List ℕ} → Chain p a fs → (n : ℕ) → length p ≡ 4 + 4 * n → length fs ≤ n
-chain-fits {fs} c n e = omega (arith, total-chain fs n (λ s i. up-to e (chain-at c s i)), total-most (λ s. countIn s fs) n (chain-once c))
-
--- In a sound State the tree and the chain have as many slots as the pool.
-pub sound-total : {S : State} → Sound S → nodes (S .top) + length (S .free) ≡ S .slots
-sound-total {S} sound =
-    let n = S .slots in
-    omega (
-      arith,
-      total-top (S .top) n (λ s i. sound-within sound s (omega arith)),
-      total-chain (S .free) n (λ s i. sound-within sound s (omega arith)),
-      total-add (λ s. countTop s (S .top)) (λ s. countIn s (S .free)) n,
-      total-each (λ s. countTop s (S .top) + countIn s (S .free)) n (sound .once),
-    )
+tree-fits {t} h lo hi o n e = size-within n t (λ s i. up-to e (holds-at h s i)) (ordered-once h lo hi o)
 
 -- The same of a top, empty or not.
 top-at : (p : List ℕ) (t : Top) → HoldsTop p t → (s : ℕ) → 1 ≤ countTop s t → At p s (slotAt p s)
@@ -240,9 +153,9 @@ top-light p empty h g s i = absurd (omega arith)
 top-light p (full t) h g s i = tree-light h (g .chromatic) (omega arith) (g .low) s i
 
 -- Of a pool that shows a State with a good tree, these are all the facts that are left to find.
-pub shows-sound : {p : List ℕ} {S : State} → Shows p S → GoodTop (S .top) → nodes (S .top) + length (S .free) ≡ S .slots
+pub shows-sound : {h : Header} {p : List ℕ} {S : State} → Shows h p S → GoodTop (S .top) → nodes (S .top) + length (S .free) ≡ S .slots
     → 1 ≤ S .slots → S .slots ≤ mostSlots → Sound S
-shows-sound {p} {S} shows good all some few = record {
+shows-sound {p = p} {S} shows good all some few = record {
   some = some;
   few = few;
   once = total-all counts (S .slots) once total-is;
@@ -285,43 +198,49 @@ shows-sound {p} {S} shows good all some few = record {
         go (no a) (yes b) = absurd (out (free-within s b))
         go (no a) (no b) = omega arith
 
--- What an audit has to find, and all that it has to find: a top and a chain of which these hold.
-pub record LocalFacts (p : List ℕ) (t : Top) (fs : List ℕ) : Type 0 where
-  pub good-length : lengthGood p ≡ true
-  pub root-is : (headerOf p) .root ≡ rootOf t
-  pub nodes-is : (headerOf p) .nodes ≡ nodes t
-  pub spare-is : (headerOf p) .spare ≡ spareOf t
+-- What an audit has to find, and all that it has to find: a top and a chain of which these hold, under a header h.
+pub record LocalFacts (h : Header) (p : List ℕ) (t : Top) (fs : List ℕ) : Type 0 where
+  pub length-good : lengthGood p ≡ true
+  pub root-is : h .root ≡ rootOf t
+  pub nodes-is : h .nodes ≡ nodes t
+  pub spare-is : h .spare ≡ spareOf t
   pub tree-held : HoldsTop p t
   pub tree-good : GoodTop t
-  pub chain-held : Chain p ((headerOf p) .free) fs
+  pub chain-held : Chain p (h .free) fs
   pub all-slots : nodes t + length fs ≡ slotsIn p
 
-pub local-shows : {p : List ℕ} {t : Top} {fs : List ℕ} → LocalFacts p t fs → Shows p (state (slotsIn p) t fs)
+-- the one way to build them
+pub local-facts : {h : Header} {p : List ℕ} {t : Top} {fs : List ℕ} → lengthGood p ≡ true → h .root ≡ rootOf t → h .nodes ≡ nodes t → h .spare ≡ spareOf t
+    → HoldsTop p t → GoodTop t → Chain p (h .free) fs → nodes t + length fs ≡ slotsIn p → LocalFacts h p t fs
+local-facts length root count spare tree good chain all = record {
+  length-good = length;
+  root-is = root;
+  nodes-is = count;
+  spare-is = spare;
+  tree-held = tree;
+  tree-good = good;
+  chain-held = chain;
+  all-slots = all;
+}
+
+pub facts-shows : {h : Header} {p : List ℕ} {t : Top} {fs : List ℕ} → LocalFacts h p t fs → Shows h p (state (slotsIn p) t fs)
 unfolding shownHeader
-local-shows {p} facts =
+facts-shows {p = p} facts =
     let e = chain-head (facts .chain-held) in
     record {
-      length-is = good-length p (facts .good-length) .length-is;
+      length-is = good-length p (facts .length-good) .length-is;
       header-is = header-eq (facts .root-is) e (facts .nodes-is) (facts .spare-is);
       tree-held = facts .tree-held;
       chain-held = rw e at (facts .chain-held);
     }
 
-pub local-sound : {p : List ℕ} {t : Top} {fs : List ℕ} → LocalFacts p t fs → Sound (state (slotsIn p) t fs)
-local-sound {p} facts =
-    let g = good-length p (facts .good-length) in
-    shows-sound (local-shows facts) (facts .tree-good) (facts .all-slots) (g .some-slots) (g .few-slots)
+pub facts-sound : {h : Header} {p : List ℕ} {t : Top} {fs : List ℕ} → LocalFacts h p t fs → Sound (state (slotsIn p) t fs)
+facts-sound {p = p} facts =
+    let g = good-length p (facts .length-good) in
+    shows-sound (facts-shows facts) (facts .tree-good) (facts .all-slots) (g .some-slots) (g .few-slots)
 
-pub sound-local : {p : List ℕ} {S : State} → Sound S → Shows p S → LocalFacts p (S .top) (S .free)
-sound-local {p} {S} sound shows =
+pub sound-local : {h : Header} {p : List ℕ} {S : State} → Sound S → Shows h p S → LocalFacts h p (S .top) (S .free)
+sound-local {p = p} {S} sound shows =
     let g = shows-length-good sound shows in
-    record {
-      good-length = g .0;
-      root-is = shows-root shows;
-      nodes-is = shows-nodes shows;
-      spare-is = shows-spare shows;
-      tree-held = shows .tree-held;
-      tree-good = sound .good;
-      chain-held = rw (shows-free shows) (shows .chain-held);
-      all-slots = sound-total sound ∙ sym (g .1);
-    }
+    local-facts (g .0) (shows-root shows) (shows-nodes shows) (shows-spare shows) (shows .tree-held) (sound .good)
+    (rw (shows-free shows) (shows .chain-held)) (sound-total sound ∙ sym (g .1))

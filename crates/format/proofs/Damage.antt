@@ -9,8 +9,8 @@ use Prim.Native.Nat.{ℕ, zero, suc, _+_, _*_, _-_, _/_}
 use Rattle.format.specs.declared.Header.{Header}
 use Rattle.format.specs.declared.Slot.{Slot}
 use Rattle.format.specs.Words.{header, slot, freeSlot, freeWeight, headerOf, slotAt, slotsIn}
-use Rattle.format.specs.Audit.{isSlot, follow, chain, chainEnds, treeFound, chainFound, slotsOf, bare, all, allFrom, same, rule-once, freeWords, rule-free, children, rule-children, leafKeys, routed, rule-order, weighed, rootWeighed, rule-weights, sumsOf, rootSums, rule-sums, rule-spare, rules}
-use Rattle.format.proofs.Worked.{pool, Row, row, allGiven, allSaid}
+use Rattle.format.specs.Audit.{isSlot, follow, chain, chainEnds, treeFound, chainFound, slotsOf, bare, all, allFrom, same, rule-once, freeWords, rule-free, children, rule-children, leafKeys, routed, rule-order, wellWeighed, rootWeighed, rule-weights, sumsOf, rootSums, rule-sums, rule-spare, rules}
+use Rattle.format.proofs.Rows.{pool, Row, row, allGiven, allSaid}
 use Rattle.tree.specs.Tree.{one, countIn}
 
 -- which rules are broken, by their numbers from n on
@@ -21,7 +21,7 @@ broken n (false ∷ bs) = n ∷ broken (suc n) bs
 
 -- a pool of a header and slots, and the rules that it breaks
 abbrev hurt : Header → List Slot → List ℕ → Row
-hurt h cs said = row (broken 0 (rules (pool h cs))) said
+hurt h cs said = let p = pool h cs in row (broken 0 (rules (headerOf p) p)) said
 
 unfoldable pub damaged : List Row
 damaged =
@@ -64,5 +64,5 @@ damaged =
     ∷ []
 
 pub damage-named : allGiven damaged ≡ allSaid damaged
-unfolding damaged broken allGiven allSaid headerOf slotAt slotsIn isSlot follow chain chainEnds treeFound chainFound slotsOf bare all allFrom same rule-once freeWords rule-free children rule-children leafKeys routed rule-order weighed rootWeighed rule-weights sumsOf rootSums rule-sums rule-spare rules one countIn
+unfolding damaged broken allGiven allSaid headerOf slotAt slotsIn isSlot follow chain chainEnds treeFound chainFound slotsOf bare all allFrom same rule-once freeWords rule-free children rule-children leafKeys routed rule-order wellWeighed rootWeighed rule-weights sumsOf rootSums rule-sums rule-spare rules one countIn
 damage-named = refl

@@ -1,7 +1,9 @@
 pub mod Slots
 pub mod Frame
+pub mod Writes
 pub mod Replace
 pub mod Shown
+pub mod Performing
 pub mod Cover
 pub mod RulesTests
 pub mod RulesSlots
@@ -12,5 +14,8 @@ pub mod RulesFound
 pub mod RulesTop
 pub mod RulesFacts
 pub mod Rules
-pub mod Worked
+pub mod AuditCases
+pub mod SmallWords
+pub mod Rows
 pub mod Damage
+pub mod Decides

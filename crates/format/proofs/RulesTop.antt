@@ -3,12 +3,12 @@
 use mathlib.Core.Path.{_≡_, refl, ap, _∙_}
 use mathlib.Core.Bool.{Bool, true, _&&_, and-eq-true-iff}
 use mathlib.Core.List.{List}
-use Prim.Native.Nat.{ℕ, _+_, _*_, _≤_, _<_}
+use Prim.Native.Nat.{ℕ, _≤_, _<_}
 use native.Mathlib.Omega.{arith}
 use lib.Dec.{eqb, leb, ltb, leb·zero}
 use lib.ListN.{length, getD}
 use borrow.Author.Tests.{leb-true, le-leb, lt-ltb, ne-eqb}
-use Rattle.format.specs.Words.{slotsIn, headOf, rootOf}
+use Rattle.format.specs.Words.{headOf, rootOf}
 use Rattle.format.specs.Shows.{Holds, HoldsTop}
 use Rattle.format.specs.Audit.{Found, nothing, follow, slotsOf, all, same, children, routed, rootWeighed, rootSums, treeOf, topOf}
 use Rattle.tree.specs.Codes.{mostLevel}
@@ -90,13 +90,12 @@ module _ (p : List ℕ) where
   top-root empty h = refl
   top-root (full t) h = rw (ne-eqb (slotOf t) 0 (omega (arith, holds-root h .from-one)), ne-eqb (size t) 0 (omega (arith, size-pos t)))
 
-  module _ (len : length p ≡ 4 + 4 * slotsIn p) where
-    pub top-follow : (T : Top) → HoldsTop p T → (n : ℕ) → nodes T ≤ n → follow n p (rootOf T) ≡ foundTop T
-    unfolding HoldsTop nodes rootOf foundTop
-    top-follow empty h n b = follow-out p n 0 (zero-no-slot p)
-    top-follow (full t) h n b = holds-found p len h n b
+  pub top-follow : (T : Top) → HoldsTop p T → (n : ℕ) → nodes T ≤ n → follow n p (rootOf T) ≡ foundTop T
+  unfolding HoldsTop nodes rootOf foundTop
+  top-follow empty h n b = follow-out p n 0 (zero-no-slot p)
+  top-follow (full t) h n b = holds-found p h n b
 
-    pub top-children : (T : Top) → HoldsTop p T → children p (foundTop T) ≡ true
-    unfolding HoldsTop foundTop children
-    top-children empty h = refl
-    top-children (full t) h = holds-children p len h
+  pub top-children : (T : Top) → HoldsTop p T → children p (foundTop T) ≡ true
+  unfolding HoldsTop foundTop children
+  top-children empty h = refl
+  top-children (full t) h = holds-children p h

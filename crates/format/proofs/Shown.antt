@@ -4,48 +4,32 @@
 -- Assumes nothing.
 use mathlib.Core.Path.{_≡_, refl, ap, sym, _∙_}
 use mathlib.Core.Logic.{_≢_, _↔_}
-use mathlib.Core.Bool.{Bool, true, false, _&&_, false≢true}
+use mathlib.Core.Bool.{true, _&&_}
 use mathlib.Core.List.{List, [], _∷_}
 use mathlib.Core.Option.{Option, none, some}
 use lib.Dec.{eqb, leb}
 use lib.ListN.{length}
-use Prim.Native.Nat.{ℕ, zero, suc, _+_, _*_, _≤_, _<_}
+use Prim.Native.Nat.{ℕ, _+_, _*_, _≤_}
 use native.Mathlib.Omega.{arith}
 use native.Mathlib.Decide.{decLe}
 use borrow.Author.Tests.{eqb-true, eq-eqb, leb-true, le-leb}
 use Rattle.format.specs.declared.Header.{Header}
 use Rattle.format.specs.declared.Slot.{Slot}
-use Rattle.format.specs.Words.{wordOf, slot, headerOf, slotAt, slotsIn, lengthGood, freeSlot, headOf, inTree, inChain, inTop, rootOf, spareOf, shownSlot, shownHeader, wordsOf}
-use Rattle.format.specs.Shows.{At, Holds, holds-leaf, holds-node, HoldsTop, Chain, chain-end, chain-more, Shows}
+use Rattle.format.specs.Words.{header, slot, headerOf, putHeader, slotAt, slotsIn, lengthGood, freeSlot, headOf, inTree, inChain, inTop, rootOf, spareOf, shownSlot, shownHeader, wordsOf}
+use Rattle.format.specs.Shows.{At, Holds, holds-leaf, holds-node, HoldsTop, Chain, chain-end, chain-more, Shows, PoolShows}
 use Rattle.tree.specs.Codes.{mostSlots}
 use Rattle.tree.specs.Tree.{Tree, leaf, node, slotOf, size, count, countIn}
 use Rattle.tree.specs.State.{State, state, Top, empty, full, nodes, countTop, Sound}
+use Rattle.tree.proofs.SoundStates.{state-eq}
+pub use Rattle.tree.proofs.SoundStates.{sound-once, sound-within}
+use Rattle.tree.proofs.Tests.{two-true}
 use Rattle.tree.proofs.Counts.{OneOf, same-or-not, one-same, one-other, is-same}
-use Rattle.format.proofs.Slots.{header-eq, same-words, words-length, words-header, words-slot}
-use Rattle.format.proofs.Frame.{chain-frame, holds-root, holds-one, chain-one, holds-slot, chain-head, chain-slot}
+use Rattle.format.proofs.Slots.{header-eq, header-length, header-same, header-kept, slot-after-header, same-words, words-length, words-header, words-slot}
+use Rattle.format.proofs.Frame.{chain-frame, top-header, chain-header, holds-root, holds-one, chain-one, holds-slot, chain-head, chain-slot}
 use Rattle.format.proofs.Frame.{inTree-leaf, inTree-root, inTree-left, inTree-right, inTree-none, inChain-first, inChain-later}
 use Rattle.format.proofs.Replace.{In, in-count, in-slot, in-size, replace}
 
--- In a sound State no slot stands twice, in the tree, on the chain, or in both; and those that stand are from 1 to C.
-pub sound-once : {S : State} → Sound S → (s : ℕ) → countTop s (S .top) + countIn s (S .free) ≤ 1
-sound-once {S} sound zero = omega (arith, sound .none-zero)
-sound-once {S} sound (suc s) = go (decLe (suc s) (S .slots))
-  where
-    go : Dec (suc s ≤ S .slots) → countTop (suc s) (S .top) + countIn (suc s) (S .free) ≤ 1
-    go (yes h) = omega (arith, sound .once (suc s) (omega arith) h)
-    go (no n) = omega (arith, sound .none-above (suc s) (omega arith))
-
-pub sound-within : {S : State} → Sound S → (s : ℕ) → 1 ≤ countTop s (S .top) + countIn s (S .free) → OneOf (S .slots) s
-sound-within sound zero h = absurd (omega (arith, sound .none-zero))
-sound-within {S} sound (suc s) h = go (decLe (suc s) (S .slots))
-  where
-    go : Dec (suc s ≤ S .slots) → OneOf (S .slots) (suc s)
-    go (yes l) = record { from-one = omega arith; to-last = l }
-    go (no n) = absurd (omega (arith, sound .none-above (suc s) (omega arith)))
-
-pub tree-not-free : {S : State} → Sound S → (s : ℕ) → 1 ≤ countTop s (S .top) → countIn s (S .free) ≡ 0
-tree-not-free sound s h = omega (arith, sound-once sound s)
-
+-- In a sound State no slot stands in the tree and on the chain.
 pub free-not-tree : {S : State} → Sound S → (s : ℕ) → 1 ≤ countIn s (S .free) → countTop s (S .top) ≡ 0
 free-not-tree sound s h = omega (arith, sound-once sound s)
 
@@ -60,18 +44,32 @@ unfolding countTop inTop
 top-none empty s h = refl
 top-none (full t) s h = inTree-none s 1 t h
 
-pub shows-slot : {p : List ℕ} {S : State} → Shows p S → (s : ℕ) → 1 ≤ countTop s (S .top) + countIn s (S .free) → slotAt p s ≡ shownSlot S s
+pub shows-slot : {h : Header} {p : List ℕ} {S : State} → Shows h p S → (s : ℕ) → 1 ≤ countTop s (S .top) + countIn s (S .free) → slotAt p s ≡ shownSlot S s
 unfolding shownSlot
-shows-slot {p} {S} shows s h = go (decLe 1 (countTop s (S .top)))
+shows-slot {p = p} {S} shows s h = go (decLe 1 (countTop s (S .top)))
   where
     go : Dec (1 ≤ countTop s (S .top)) → slotAt p s ≡ shownSlot S s
     go (yes i) = rw (top-slot p (S .top) (shows .tree-held) s i, shownSlot)
     go (no n) = rw (top-none (S .top) s (omega arith), chain-slot (shows .chain-held) s (omega arith), shownSlot)
 
--- So a sound State decides every word of a pool of its C.
-pub words-decided : {p : List ℕ} {S : State} → Sound S → Shows p S → p ≡ wordsOf S
-words-decided {p} {S} sound shows = same-words p (wordsOf S) (S .slots) (shows .length-is) (words-length S) (shows .header-is ∙ sym (words-header S))
-    (λ s l h. shows-slot shows s (omega (arith, sound .once s l h)) ∙ sym (words-slot S s l h))
+-- So a sound State decides every word of a pool of its C, once the header is written.
+pub written-decided : {h : Header} {p : List ℕ} {S : State} → Sound S → Shows h p S → putHeader p h ≡ wordsOf S
+written-decided {h} {p} {S} sound shows = same-words (putHeader p h) (wordsOf S) (S .slots)
+    (header-length p h ∙ shows .length-is) (words-length S)
+    (header-same p h (omega (arith, shows .length-is)) ∙ (shows .header-is ∙ sym (words-header S)))
+    (λ s l m. slot-after-header p h s l ∙ (shows-slot shows s (omega (arith, sound .once s l m)) ∙ sym (words-slot S s l m)))
+
+pub words-decided : {p : List ℕ} {S : State} → Sound S → PoolShows p S → p ≡ wordsOf S
+words-decided {p} sound shows = sym (header-kept p) ∙ written-decided sound shows
+
+-- The header may be written: the pool then shows what was shown under it.
+pub shows-written : {h : Header} {p : List ℕ} {S : State} → Shows h p S → PoolShows (putHeader p h) S
+shows-written {h} {p} {S} shows = record {
+  length-is = header-length p h ∙ shows .length-is;
+  header-is = header-same p h (omega (arith, shows .length-is)) ∙ shows .header-is;
+  tree-held = top-header p (S .top) h (shows .tree-held);
+  chain-held = chain-header (shows .chain-held) h;
+}
 
 -- The other way: words that hold at each slot of a tree what the tree says hold the tree, if no slot stands in it twice; and so for a chain.
 some-one : {x : Option Slot} {c d : Slot} → x ≡ some c → x ≡ some d → c ≡ d
@@ -109,7 +107,7 @@ Own p s x = At p s (slotAt p s) × (x ≡ some (slotAt p s))
 
 own-at : {p : List ℕ} {s : ℕ} {x : Option Slot} {c : Slot} → Own p s x → x ≡ some c → At p s c
 unfolding Own
-own-at o e = record { from-one = o .0 .from-one; room = o .0 .room; content = some-one (o .1) e }
+own-at o e = record { from-one = o .0 .from-one; inside = o .0 .inside; content = some-one (o .1) e }
 
 holds-shown : (p : List ℕ) (w : ℕ) (t : Tree) → ((s : ℕ) → count s t ≤ 1) → ((s : ℕ) → 1 ≤ count s t → Own p s (inTree s w t)) → Holds p w t
 unfolding count Own
@@ -151,7 +149,7 @@ top-shown p empty c f = tt
 top-shown p (full t) c f = holds-shown p 1 t c f
 
 -- So the words of a sound State show it.
-pub shows-words : {S : State} → Sound S → Shows (wordsOf S) S
+pub shows-words : {S : State} → Sound S → PoolShows (wordsOf S) S
 unfolding Own shownSlot
 shows-words {S} sound = record {
   length-is = words-length S;
@@ -161,7 +159,7 @@ shows-words {S} sound = record {
 }
   where
     own : (s : ℕ) → OneOf (S .slots) s → At (wordsOf S) s (slotAt (wordsOf S) s)
-    own s i = record { from-one = i .from-one; room = omega (arith, words-length S, i .to-last); content = refl }
+    own s i = record { from-one = i .from-one; inside = omega (arith, words-length S, i .to-last); content = refl }
 
     in-tree : (s : ℕ) → 1 ≤ countTop s (S .top) → Own (wordsOf S) s (inTop s (S .top))
     in-tree s h =
@@ -179,27 +177,27 @@ shows-words {S} sound = record {
         (own s i, rw e (x .1))
 
 -- Both at once: what a sound State shows are its words and no others.
-pub shows-exactly : (p : List ℕ) {S : State} → Sound S → Shows p S ↔ (p ≡ wordsOf S)
+pub shows-exactly : (p : List ℕ) {S : State} → Sound S → PoolShows p S ↔ (p ≡ wordsOf S)
 shows-exactly p sound = (words-decided sound, λ e. rw e (shows-words sound))
 
 -- The header's fields.
-pub shows-root : {p : List ℕ} {S : State} → Shows p S → (headerOf p) .root ≡ rootOf (S .top)
+pub shows-root : {h : Header} {p : List ℕ} {S : State} → Shows h p S → h .root ≡ rootOf (S .top)
 unfolding shownHeader
 shows-root shows = ap (λ (h : Header). h .root) (shows .header-is)
 
-pub shows-free : {p : List ℕ} {S : State} → Shows p S → (headerOf p) .free ≡ headOf (S .free)
+pub shows-free : {h : Header} {p : List ℕ} {S : State} → Shows h p S → h .free ≡ headOf (S .free)
 unfolding shownHeader
 shows-free shows = ap (λ (h : Header). h .free) (shows .header-is)
 
-pub shows-nodes : {p : List ℕ} {S : State} → Shows p S → (headerOf p) .nodes ≡ nodes (S .top)
+pub shows-nodes : {h : Header} {p : List ℕ} {S : State} → Shows h p S → h .nodes ≡ nodes (S .top)
 unfolding shownHeader
 shows-nodes shows = ap (λ (h : Header). h .nodes) (shows .header-is)
 
-pub shows-spare : {p : List ℕ} {S : State} → Shows p S → (headerOf p) .spare ≡ spareOf (S .top)
+pub shows-spare : {h : Header} {p : List ℕ} {S : State} → Shows h p S → h .spare ≡ spareOf (S .top)
 unfolding shownHeader
 shows-spare shows = ap (λ (h : Header). h .spare) (shows .header-is)
 
--- A pool shows at most one State, sound or not.
+-- A header and a pool's words show at most one State, sound or not.
 top-one : (p : List ℕ) (t u : Top) → HoldsTop p t → HoldsTop p u → rootOf t ≡ rootOf u → t ≡ u
 unfolding HoldsTop rootOf
 top-one p empty empty h g e = refl
@@ -207,11 +205,8 @@ top-one p empty (full u) h g e = absurd (omega (arith, holds-root g .from-one))
 top-one p (full t) empty h g e = absurd (omega (arith, holds-root h .from-one))
 top-one p (full t) (full u) h g e = ap full (holds-one h g e .1)
 
-state-eq : {S T : State} → S .slots ≡ T .slots → S .top ≡ T .top → S .free ≡ T .free → S ≡ T
-state-eq a b c = λ i. record { slots = a i; top = b i; free = c i }
-
-pub shows-one : {p : List ℕ} {S T : State} → Shows p S → Shows p T → S ≡ T
-shows-one {p} {S} {T} f g = state-eq
+pub shows-one : {h : Header} {p : List ℕ} {S T : State} → Shows h p S → Shows h p T → S ≡ T
+shows-one {p = p} {S} {T} f g = state-eq
     (omega (arith, f .length-is, g .length-is))
     (top-one p (S .top) (T .top) (f .tree-held) (g .tree-held) (sym (shows-root f) ∙ shows-root g))
     (chain-one (f .chain-held) (rw (sym (shows-free g) ∙ shows-free f) at (g .chain-held)))
@@ -225,8 +220,8 @@ pub length-is-good : (p : List ℕ) (n : ℕ) → length p ≡ 4 + 4 * n → 1 �
 unfolding lengthGood
 length-is-good p n e l h = rw (slots-in p n e, eq-eqb (length p) (4 + 4 * n) e, le-leb 1 n l, le-leb n mostSlots h)
 
-pub shows-length-good : {p : List ℕ} {S : State} → Sound S → Shows p S → (lengthGood p ≡ true) × (slotsIn p ≡ S .slots)
-shows-length-good {p} {S} sound shows =
+pub shows-length-good : {h : Header} {p : List ℕ} {S : State} → Sound S → Shows h p S → (lengthGood p ≡ true) × (slotsIn p ≡ S .slots)
+shows-length-good {p = p} {S} sound shows =
     (length-is-good p (S .slots) (shows .length-is) (sound .some) (sound .few), slots-in p (S .slots) (shows .length-is))
 
 -- what a good length says
@@ -234,10 +229,6 @@ pub record GoodLength (p : List ℕ) : Type 0 where
   pub length-is : length p ≡ 4 + 4 * slotsIn p
   pub some-slots : 1 ≤ slotsIn p
   pub few-slots : slotsIn p ≤ mostSlots
-
-two-true : (a b : Bool) → (a && b) ≡ true → (a ≡ true) × (b ≡ true)
-two-true true b e = (refl, e)
-two-true false b e = absurd (false≢true e)
 
 pub good-length : (p : List ℕ) → lengthGood p ≡ true → GoodLength p
 unfolding lengthGood
@@ -250,18 +241,21 @@ good-length p e =
       few-slots = leb-true (slotsIn p) mostSlots (both .1);
     }
 
+-- "pool length is not 4 + 4C": `lengthGood` is this.
+pub length-exactly : (p : List ℕ) → (lengthGood p ≡ true) ↔ ((c : ℕ) × (1 ≤ c) × (c ≤ mostSlots) × (length p ≡ 4 + 4 * c))
+length-exactly p = (
+  λ e. let g = good-length p e in (_, g .some-slots, g .few-slots, g .length-is),
+  λ g. length-is-good p (g .0) (g .3) (g .1) (g .2),
+)
+
 -- The tree of a State that has one, and how often a slot stands in it.
-pub shows-tree : {p : List ℕ} {c : ℕ} {t : Tree} {fs : List ℕ} → Shows p (state c (full t) fs) → Holds p 1 t
+pub shows-tree : {h : Header} {p : List ℕ} {S : State} {t : Tree} → Shows h p S → S .top ≡ full t → Holds p 1 t
 unfolding HoldsTop
-shows-tree shows = shows .tree-held
+shows-tree shows e = rw e at (shows .tree-held)
 
-pub tree-once : {c : ℕ} {t : Tree} {fs : List ℕ} → Sound (state c (full t) fs) → (s : ℕ) → count s t + countIn s fs ≤ 1
+pub placed-once : {S : State} {t : Tree} → Sound S → S .top ≡ full t → (s : ℕ) → count s t + countIn s (S .free) ≤ 1
 unfolding countTop
-tree-once sound s = sound-once sound s
-
--- A slot of the pool has its four words.
-pub shows-room : {p : List ℕ} {S : State} → Shows p S → (s : ℕ) → s ≤ S .slots → wordOf s + 3 < length p
-shows-room shows s h = omega (arith, shows .length-is)
+placed-once sound e s = rw e at (sound-once sound s)
 
 -- The slot that is taken next: the chain's head, and the chain without it.
 pub record FirstFree (p : List ℕ) (a : ℕ) (fs : List ℕ) : Type 0 where
@@ -271,22 +265,20 @@ pub record FirstFree (p : List ℕ) (a : ℕ) (fs : List ℕ) : Type 0 where
 pub chain-first : {p : List ℕ} {s a : ℕ} {fs : List ℕ} → Chain p s (a ∷ fs) → FirstFree p a fs
 chain-first (chain-more h c) = let e = chain-head c in record { first = rw e at h; rest = rw e at c }
 
-pub shows-first : {p : List ℕ} {S : State} {a : ℕ} {fs : List ℕ} → Shows p S → S .free ≡ a ∷ fs → FirstFree p a fs
-shows-first shows e = chain-first (rw e at (shows .chain-held))
-
--- What a step has to show: the subtree a became b, of the same root's slot and size, in a's slots alone. (Of the header's fourth
--- word only what the State says of it.)
-pub shows-replaced : {p p′ : List ℕ} {c p₀ q : ℕ} {a b t u : Tree} {fs : List ℕ} → Sound (state c (full t) fs) → Shows p (state c (full t) fs)
+-- What a step has to show: the subtree a became b, of the same root's slot and size, in a's slots alone. The header stays. (Of its
+-- fourth word only what the State says of it.)
+pub shows-replaced : {h : Header} {p p′ : List ℕ} {S : State} {t u : Tree} {p₀ q : ℕ} {a b : Tree} → Sound S → S .top ≡ full t → Shows h p S
     → In p₀ a q b 1 t 1 u → slotOf b ≡ slotOf a → size b ≡ size a → spareOf (full u) ≡ spareOf (full t)
-    → length p′ ≡ length p → headerOf p′ ≡ headerOf p → ((s : ℕ) → count s a ≡ 0 → slotAt p′ s ≡ slotAt p s)
-    → Holds p′ q b → Shows p′ (state c (full u) fs)
+    → length p′ ≡ length p → ((s : ℕ) → count s a ≡ 0 → slotAt p′ s ≡ slotAt p s)
+    → Holds p′ q b → Shows h p′ (state (S .slots) (full u) (S .free))
 unfolding HoldsTop shownHeader rootOf nodes
-shows-replaced {t} {u} sound shows i e z x m h f g =
-    let once = tree-once sound in
+shows-replaced {h} {S = S} {t} {u} sound top shows i e z x m f g =
+    let once = placed-once sound top in
     let size-same : size t ≡ size u = omega (arith, in-size i) in
+    let was : h ≡ header (slotOf t) (headOf (S .free)) (size t) (spareOf (full t)) = rw top at (shows .header-is) in
     record {
       length-is = m ∙ shows .length-is;
-      header-is = h ∙ (shows .header-is ∙ header-eq (sym (in-slot i e)) refl size-same (sym x));
-      tree-held = replace i e (λ s. omega (arith, once s)) m (λ s j n. f s n) (shows-tree shows) g;
+      header-is = was ∙ header-eq (sym (in-slot i e)) refl size-same (sym x);
+      tree-held = replace i e (λ s. omega (arith, once s)) m (λ s j n. f s n) (shows-tree shows top) g;
       chain-held = chain-frame (shows .chain-held) m (λ s j. f s (omega (arith, once s, in-count s i)));
     }

@@ -7,8 +7,8 @@ use mathlib.Core.List.{List, _∷_}
 use Prim.Native.Nat.{ℕ, zero, suc, _+_, _*_, _/_, _%_, _≤_, _<_}
 use native.Mathlib.Nat.{add-zero, suc-add}
 use native.Mathlib.Omega.{arith}
-use lib.ListN.{length, getD, set, length-set, List·getD-eq-default}
-use lib.Seq.{getD-set-same, getD-set-other, set-getD, set-out, ext-getD}
+use lib.ListN.{length, getD, set, length-set}
+use lib.Seq.{getD-set-same, getD-set-other, set-getD, ext-getD}
 use Rattle.format.specs.declared.Header.{Header}
 use Rattle.format.specs.declared.Slot.{Slot}
 use Rattle.format.specs.Words.{wordOf, header, slot, headerOf, putHeader, slotAt, putSlot, slotsFrom, shownHeader, shownSlot, wordsOf}
@@ -43,12 +43,6 @@ module _ (p : List ℕ) (i : ℕ) (c : Slot) where
   four-length : length (putFour p i c) ≡ length p
   unfolding putFour
   four-length = simp length-set
-
-  four-past : length p ≤ i → putFour p i c ≡ p
-  unfolding putFour
-  four-past h =
-      rw (set-out p i (c .key) h, set-out p (i + 1) (c .left) (omega arith), set-out p (i + 2) (c .right) (omega arith))
-      (set-out p (i + 3) (c .weight) (omega arith))
 
   four-same : i + 3 < length p → getFour (putFour p i c) i ≡ c
   unfolding getFour putFour
@@ -111,24 +105,7 @@ pub header-after-slot : (p : List ℕ) (s : ℕ) (c : Slot) → 1 ≤ s → head
 unfolding headerOf putSlot getFour putFour asHeader Elsewhere
 header-after-slot p s c l = ap asHeader (four-other p (wordOf s) c 0 (λ m b. omega arith))
 
--- A write past the end does nothing, and reading there gives 0.
-pub slot-past : (p : List ℕ) (s : ℕ) (c : Slot) → length p ≤ wordOf s → putSlot p s c ≡ p
-unfolding putSlot putFour
-slot-past p s c h = four-past p (wordOf s) c h
-
-pub slot-none : (p : List ℕ) (s : ℕ) → length p ≤ wordOf s → slotAt p s ≡ slot 0 0 0 0
-unfolding slotAt
-slot-none p s h = slot-eq
-    (List·getD-eq-default p 0 h)
-    (List·getD-eq-default p 0 (omega arith))
-    (List·getD-eq-default p 0 (omega arith))
-    (List·getD-eq-default p 0 (omega arith))
-
 -- To write what is there changes nothing.
-pub slot-kept : (p : List ℕ) (s : ℕ) → putSlot p s (slotAt p s) ≡ p
-unfolding slotAt putSlot
-slot-kept p s = simp set-getD
-
 pub header-kept : (p : List ℕ) → putHeader p (headerOf p) ≡ p
 unfolding headerOf putHeader
 header-kept p = simp set-getD

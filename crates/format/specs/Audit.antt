@@ -1,16 +1,19 @@
--- Document 01, Audit rules, on the words themselves: one definition a bullet, over what is found by following the words.
-use mathlib.Core.Path.{_≡_}
+-- Document 01, Audit rules, on the words themselves: one definition a bullet, over what is found by following the words under a header
+-- h, by value. Where the header lies is said at the end, where a pool is audited.
 use mathlib.Core.Bool.{Bool, true, false, not, _&&_, _||_}
 use mathlib.Core.List.{List, [], _∷_, _++_}
 use lib.Dec.{eqb, leb, ltb}
 use lib.ListN.{length}
-use Prim.Native.Nat.{ℕ, zero, suc, _+_, _*_}
+use Prim.Native.Nat.{ℕ, zero, suc, _+_}
 use Rattle.format.specs.declared.Header.{Header}
 use Rattle.format.specs.declared.Slot.{Slot}
-use Rattle.format.specs.Words.{headerOf, slotAt, slotsIn, freeWeight, headOf}
-use Rattle.tree.specs.Codes.{mostLevel}
+use Rattle.format.specs.declared.Audited.{Audited}
+use Rattle.format.specs.declared.Audited.the-variants.{Length, Broken, Passed}
+use Rattle.format.specs.Words.{headerOf, slotAt, slotsIn, lengthGood, freeWeight, headOf}
+use Rattle.tree.specs.declared.Refusal.the-variants.{PoolLength, RulesBroken}
+use Rattle.tree.specs.Codes.{mostLevel, code}
 use Rattle.tree.specs.Tree.{Tree, leaf, node, countIn}
-use Rattle.tree.specs.State.{State, state, Top, empty, full}
+use Rattle.tree.specs.State.{State, state, Top, empty, full, levelTop}
 
 -- "Slots are numbered from 1; 0 is no slot."
 unfoldable pub isSlot : List ℕ → ℕ → Bool
@@ -39,11 +42,11 @@ chainEnds zero p s = true
 chainEnds (suc n) p s = elim (isSlot p s) [ true ↦ chainEnds n p ((slotAt p s) .left) | false ↦ eqb s 0 ]
 
 -- C + 1 slots deep or long is enough: a way of more than C slots passes one of them twice, and shows it.
-unfoldable pub treeFound : List ℕ → Found
-treeFound p = follow (suc (slotsIn p)) p ((headerOf p) .root)
+unfoldable pub treeFound : Header → List ℕ → Found
+treeFound h p = follow (suc (slotsIn p)) p (h .root)
 
-unfoldable pub chainFound : List ℕ → List ℕ
-chainFound p = chain (suc (slotsIn p)) p ((headerOf p) .free)
+unfoldable pub chainFound : Header → List ℕ → List ℕ
+chainFound h p = chain (suc (slotsIn p)) p (h .free)
 
 -- the slots found, the words of a leaf ("A leaf has left and right 0"), and a test at each slot of a list
 unfoldable pub slotsOf : Found → List ℕ
@@ -67,28 +70,28 @@ same true b = b
 same false b = not b
 
 -- "Every slot is in the tree exactly once or on the free chain exactly once, never both. N is right. Root is 0 exactly when N is 0."
-unfoldable pub rule-once : List ℕ → Bool
-rule-once p =
-    allFrom (λ s. eqb (countIn s (slotsOf (treeFound p)) + countIn s (chainFound p)) 1) 1 (slotsIn p)
-    && eqb ((headerOf p) .nodes) (length (slotsOf (treeFound p)))
-    && same (eqb ((headerOf p) .root) 0) (eqb ((headerOf p) .nodes) 0)
+unfoldable pub rule-once : Header → List ℕ → Bool
+rule-once h p =
+    allFrom (λ s. eqb (countIn s (slotsOf (treeFound h p)) + countIn s (chainFound h p)) 1) 1 (slotsIn p)
+    && eqb (h .nodes) (length (slotsOf (treeFound h p)))
+    && same (eqb (h .root) 0) (eqb (h .nodes) 0)
 
 -- "A free slot is 0, next free slot (0 at the end), 0, 4,294,967,295." (A slot that the chain shares with the tree breaks the first rule.)
 unfoldable pub freeWords : List ℕ → ℕ → Bool
 freeWords p s = let c = slotAt p s in eqb (c .key) 0 && eqb (c .right) 0 && eqb (c .weight) freeWeight
 
-unfoldable pub rule-free : List ℕ → Bool
-rule-free p =
-    all (λ s. not (eqb (countIn s (slotsOf (treeFound p))) 0) || freeWords p s) (chainFound p)
-    && chainEnds (suc (slotsIn p)) p ((headerOf p) .free)
+unfoldable pub rule-free : Header → List ℕ → Bool
+rule-free h p =
+    all (λ s. not (eqb (countIn s (slotsOf (treeFound h p))) 0) || freeWords p s) (chainFound h p)
+    && chainEnds (suc (slotsIn p)) p (h .free)
 
 -- "A leaf has left and right 0; an inner node has both from 1 to C."
 unfoldable pub children : List ℕ → Found → Bool
 children p nothing = true
 children p (found s c l r) = (bare c || isSlot p (c .left) && isSlot p (c .right)) && children p l && children p r
 
-unfoldable pub rule-children : List ℕ → Bool
-rule-children p = children p (treeFound p)
+unfoldable pub rule-children : Header → List ℕ → Bool
+rule-children h p = children p (treeFound h p)
 
 -- "Leaf keys in a left subtree are at most the router; leaf keys in a right subtree are greater."
 unfoldable pub leafKeys : Found → List ℕ
@@ -99,20 +102,20 @@ unfoldable pub routed : Found → Bool
 routed nothing = true
 routed (found s c l r) = all (λ k. leb k (c .key)) (leafKeys l) && all (λ k. ltb (c .key) k) (leafKeys r) && routed l && routed r
 
-unfoldable pub rule-order : List ℕ → Bool
-rule-order p = routed (treeFound p)
+unfoldable pub rule-order : Header → List ℕ → Bool
+rule-order h p = routed (treeFound h p)
 
 -- "Weights are 0 to 255. The root's is 1 and counts in nothing. A leaf that is not the root has at least 1."
-unfoldable pub weighed : Found → Bool
-weighed nothing = true
-weighed (found s c l r) = leb (c .weight) mostLevel && (not (bare c) || leb 1 (c .weight)) && weighed l && weighed r
+unfoldable pub wellWeighed : Found → Bool
+wellWeighed nothing = true
+wellWeighed (found s c l r) = leb (c .weight) mostLevel && (not (bare c) || leb 1 (c .weight)) && wellWeighed l && wellWeighed r
 
 unfoldable pub rootWeighed : Found → Bool
 rootWeighed nothing = true
-rootWeighed (found s c l r) = eqb (c .weight) 1 && weighed l && weighed r
+rootWeighed (found s c l r) = eqb (c .weight) 1 && wellWeighed l && wellWeighed r
 
-unfoldable pub rule-weights : List ℕ → Bool
-rule-weights p = rootWeighed (treeFound p)
+unfoldable pub rule-weights : Header → List ℕ → Bool
+rule-weights h p = rootWeighed (treeFound h p)
 
 -- "From root to leaf the weights, root's left out, add up to the same number L for every leaf, and L is at most 255."
 -- Each leaf's sum, n being the sum on the way to the node's parent.
@@ -124,36 +127,61 @@ unfoldable pub rootSums : Found → List ℕ
 rootSums nothing = []
 rootSums (found s c l r) = elim (bare c) [ true ↦ 0 ∷ [] | false ↦ sumsOf 0 l ++ sumsOf 0 r ]
 
-unfoldable pub rule-sums : List ℕ → Bool
-rule-sums p = let sums = rootSums (treeFound p) in all (λ n. eqb n (headOf sums)) sums && leb (headOf sums) mostLevel
+unfoldable pub rule-sums : Header → List ℕ → Bool
+rule-sums h p = let sums = rootSums (treeFound h p) in all (λ n. eqb n (headOf sums)) sums && leb (headOf sums) mostLevel
 
 -- The header's fourth word, "one word that is 0", has a rule of its own: no bullet names it.
-unfoldable pub rule-spare : List ℕ → Bool
-rule-spare p = eqb ((headerOf p) .spare) 0
+unfoldable pub rule-spare : Header → Bool
+rule-spare h = eqb (h .spare) 0
 
 -- The rules in 01's order, the header's word first. Code 2: "audit rules broken".
-unfoldable pub rules : List ℕ → List Bool
-rules p = rule-spare p ∷ rule-once p ∷ rule-free p ∷ rule-children p ∷ rule-order p ∷ rule-weights p ∷ rule-sums p ∷ []
+unfoldable pub rules : Header → List ℕ → List Bool
+rules h p =
+    rule-spare h ∷ rule-once h p ∷ rule-free h p ∷ rule-children h p ∷ rule-order h p ∷ rule-weights h p ∷ rule-sums h p ∷ []
 
 unfoldable pub allTrue : List Bool → Bool
 allTrue [] = true
 allTrue (b ∷ bs) = b && allTrue bs
 
-unfoldable pub rulesHold : List ℕ → Bool
-rulesHold p = allTrue (rules p)
+unfoldable pub rulesUnder : Header → List ℕ → Bool
+rulesUnder h p = allTrue (rules h p)
 
 -- The State that words show, read off what is found; it means something where the rules hold.
-unfoldable pub weightAt : Found → ℕ
-weightAt nothing = 0
-weightAt (found s c l r) = c .weight
+unfoldable pub foundWeight : Found → ℕ
+foundWeight nothing = 0
+foundWeight (found s c l r) = c .weight
 
 unfoldable pub treeOf : Found → Tree
 treeOf nothing = leaf 0 0
-treeOf (found s c l r) = elim (bare c) [ true ↦ leaf s (c .key) | false ↦ node s (c .key) (weightAt l) (treeOf l) (weightAt r) (treeOf r) ]
+treeOf (found s c l r) = elim (bare c) [ true ↦ leaf s (c .key) | false ↦ node s (c .key) (foundWeight l) (treeOf l) (foundWeight r) (treeOf r) ]
 
 unfoldable pub topOf : Found → Top
 topOf nothing = empty
 topOf (found s c l r) = full (treeOf (found s c l r))
 
-unfoldable pub stateOf : List ℕ → State
-stateOf p = state (slotsIn p) (topOf (treeFound p)) (chainFound p)
+unfoldable pub stateUnder : Header → List ℕ → State
+stateUnder h p = state (slotsIn p) (topOf (treeFound h p)) (chainFound h p)
+
+-- A pool is audited under the header in its first four words.
+abbrev pub rulesHold : List ℕ → Bool
+rulesHold p = rulesUnder (headerOf p) p
+
+abbrev pub stateOf : List ℕ → State
+stateOf p = stateUnder (headerOf p) p
+
+-- All that the audit learns, and the one order of refusals 1 and 2. 1: "pool length is not 4 + 4C"; 2: "audit rules broken"; or the
+-- header and L of what the words show.
+unfoldable pub audited : List ℕ → Audited
+audited p = elim (lengthGood p) [
+  | false ↦ Length
+  | true ↦ elim (rulesHold p) [ false ↦ Broken | true ↦ Passed (headerOf p) (levelTop ((stateOf p) .top)) ]
+]
+
+abbrev pub auditedCode : Audited → ℕ
+auditedCode Length = code PoolLength
+auditedCode Broken = code RulesBroken
+auditedCode (Passed h l) = 0
+
+-- "audit [gives] 0, 1 or 2"
+unfoldable pub auditCode : List ℕ → ℕ
+auditCode p = auditedCode (audited p)

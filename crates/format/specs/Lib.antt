@@ -1,5 +1,4 @@
 pub mod Words
 pub mod Shows
 pub mod Audit
-pub mod Numbers
-pub mod Batch
+pub mod Performing

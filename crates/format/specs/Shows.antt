@@ -3,6 +3,7 @@ use mathlib.Core.Path.{_≡_}
 use mathlib.Core.List.{List, [], _∷_}
 use lib.ListN.{length}
 use Prim.Native.Nat.{ℕ, _+_, _*_, _≤_, _<_}
+use Rattle.format.specs.declared.Header.{Header}
 use Rattle.format.specs.declared.Slot.{Slot}
 use Rattle.format.specs.Words.{wordOf, slot, headerOf, slotAt, freeSlot, headOf, shownHeader}
 use Rattle.tree.specs.Tree.{Tree, leaf, node, slotOf}
@@ -11,7 +12,7 @@ use Rattle.tree.specs.State.{State, Top, empty, full}
 -- slot s is one of the pool's, and holds c
 pub record At (p : List ℕ) (s : ℕ) (c : Slot) : Type 0 where
   pub from-one : 1 ≤ s
-  pub room : wordOf s + 3 < length p
+  pub inside : wordOf s + 3 < length p
   pub content : slotAt p s ≡ c
 
 -- the slots of t hold t, which hangs from an edge of weight w
@@ -28,8 +29,13 @@ pub data Chain (p : List ℕ) : ℕ → List ℕ → Type 0 where
   chain-end : Chain p 0 []
   chain-more : {s n : ℕ} {fs : List ℕ} → At p s (freeSlot n) → Chain p n fs → Chain p s (s ∷ fs)
 
-pub record Shows (p : List ℕ) (S : State) : Type 0 where
+-- The header h, by value, and the words of the slots in p show S: where a header lies is the matter of those who read or write it.
+pub record Shows (h : Header) (p : List ℕ) (S : State) : Type 0 where
   pub length-is : length p ≡ 4 + 4 * S .slots
-  pub header-is : headerOf p ≡ shownHeader S
+  pub header-is : h ≡ shownHeader S
   pub tree-held : HoldsTop p (S .top)
   pub chain-held : Chain p (headOf (S .free)) (S .free)
+
+-- A pool shows S: its header lies in its first four words.
+abbrev pub PoolShows : List ℕ → State → Type 0
+PoolShows p S = Shows (headerOf p) p S

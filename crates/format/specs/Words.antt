@@ -5,7 +5,7 @@ use mathlib.Core.List.{List, [], _∷_, _++_}
 use mathlib.Core.Option.{Option, none, some}
 use lib.Dec.{eqb, leb}
 use lib.ListN.{length, getD, set}
-use Prim.Native.Nat.{ℕ, zero, suc, _+_, _*_, _-_, _/_}
+use Prim.Native.Nat.{ℕ, zero, suc, _+_, _*_, _-_, _/_, min}
 use Rattle.format.specs.declared.Header.{Header}
 use Rattle.format.specs.declared.Slot.{Slot}
 use Rattle.tree.specs.Codes.{mostSlots}
@@ -22,6 +22,10 @@ header root free n spare = record { root = root; free = free; nodes = n; spare =
 abbrev pub slot : ℕ → ℕ → ℕ → ℕ → Slot
 slot key left right weight = record { key = key; left = left; right = right; weight = weight }
 
+-- a slot's words with another weight
+abbrev pub weighing : Slot → ℕ → Slot
+weighing c w = slot (c .key) (c .left) (c .right) w
+
 -- Reading past the end gives 0, writing there does nothing.
 unfoldable pub headerOf : List ℕ → Header
 headerOf p = header (getD p 0 0) (getD p 1 0) (getD p 2 0) (getD p 3 0)
@@ -35,10 +39,14 @@ slotAt p s = slot (getD p (wordOf s) 0) (getD p (wordOf s + 1) 0) (getD p (wordO
 unfoldable pub putSlot : List ℕ → ℕ → Slot → List ℕ
 putSlot p s c = set (set (set (set p (wordOf s) (c .key)) (wordOf s + 1) (c .left)) (wordOf s + 2) (c .right)) (wordOf s + 3) (c .weight)
 
--- C, and code 1: "pool length is not 4 + 4C", C "from 1 to 1,023"
+-- C; the last slot, which is C in a pool of a good length and 1,023 in a longer one
 unfoldable pub slotsIn : List ℕ → ℕ
 slotsIn p = length p / 4 - 1
 
+abbrev pub lastSlot : List ℕ → ℕ
+lastSlot p = min (slotsIn p) mostSlots
+
+-- code 1: "pool length is not 4 + 4C", C "from 1 to 1,023"
 unfoldable pub lengthGood : List ℕ → Bool
 lengthGood p = eqb (length p) (4 + 4 * slotsIn p) && leb 1 (slotsIn p) && leb (slotsIn p) mostSlots
 

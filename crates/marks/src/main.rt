@@ -1,5 +1,6 @@
 // The program behind ./marks: prepares 127 slots, runs standard input, up to 4,096 bytes, as one batch, and prints its answers.
 // All that matters is in the library; what is printed is tested against stored output.
+use commands::MOST_COMMANDS;
 use commands::Scanned;
 use commands::scan;
 use libc::STDIN_FILENO;
@@ -8,10 +9,8 @@ use pool::prepare;
 
 // 01: "The program prepares 127 slots": 4 header words and 4 for each slot.
 const POOL_WORDS: usize = 512;
-// Two answer words for each of at most 256 commands.
-const ANSWER_WORDS: usize = 512;
-
-const MOST_COMMANDS: usize = 256;
+// Two answer words for each command of a batch.
+const ANSWERS: usize = 2 * MOST_COMMANDS;
 
 // A word, as io prints it.
 fn wide(x: u32) -> u64 {
@@ -32,7 +31,7 @@ fn print_refused(code: u32, number: u32) {
     print_line(code, number);
 }
 
-// The answer of command i, one of at most 256.
+// The answer of command i, one of at most MOST_COMMANDS.
 fn print_answer(answers: &[u32], i: usize) {
     if i < MOST_COMMANDS {
         print_line(slots::word(answers, 2 * i), slots::word(answers, 2 * i + 1));
@@ -57,7 +56,7 @@ fn commands_in(bytes: &[u8]) -> usize {
 
 fn run(bytes: &[u8]) {
     let mut pool = [0u32; POOL_WORDS];
-    let mut answers = [0u32; ANSWER_WORDS];
+    let mut answers = [0u32; ANSWERS];
     prepare(&mut pool);
     let called = batch::batch(&mut pool, bytes, &mut answers);
     if called.code == 0 {

@@ -1,10 +1,10 @@
 // 01, The batch: "Numbers are seven-bit groups, lowest first, top bit set when more follow. Only the shortest form, at most
 // 4,294,967,295."
-use format::Number;
+use encoding::Number;
 ghost use mathlib.Core.Path.{_≡_};
 ghost use mathlib.Core.Bool.{false};
 ghost use Prim.Native.Nat.{_<_};
-ghost use Rattle.format.specs.Numbers.{number, groups, below};
+ghost use Rattle.encoding.specs.Numbers.{number, groups, below};
 
 // A byte below this is a last group; each group counts this many times as much as the one below it.
 const GROUP: u32 = 128;

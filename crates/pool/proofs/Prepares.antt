@@ -13,10 +13,11 @@ use Rattle.tree.specs.State.{upwards, prepared, nodes, Sound}
 use Rattle.tree.proofs.Updated.{prepared-sound}
 use Rattle.format.specs.Words.{header, headerOf, putHeader, slotAt, putSlot, slotsIn, lengthGood, freeSlot, headOf, inChain, inTop, rootOf, spareOf, shownSlot, shownHeader, wordsOf}
 use Rattle.format.proofs.Slots.{header-same, header-length, slot-length, slot-same, slot-other, header-after-slot, same-words, words-length, words-header, words-slot}
-use Rattle.format.specs.Shows.{Shows}
+use Rattle.format.specs.Shows.{PoolShows}
+use Rattle.format.specs.Audit.{auditCode}
 use Rattle.format.proofs.Shown.{good-length, shows-words}
-use Rattle.format.proofs.Rules.{show-rules}
-use Rattle.pool.specs.Results.{prepareCode, preparedWords, auditCode}
+use Rattle.format.proofs.AuditCases.{audited-passed}
+use Rattle.pool.specs.Results.{prepareCode, preparedWords}
 
 -- what the chain n slots long that goes upwards from a says of slot s
 up-head : (s n : ℕ) → 1 ≤ n → headOf (upwards s n) ≡ s
@@ -105,7 +106,7 @@ unfolding prepareCode preparedWords
 prepare-done p q n s h e k l = rw (h, prepareCode, preparedWords) (refl, rw (← e) (chaining-last q n s k l))
 
 -- A prepared pool shows the empty State, which is sound. So the audit accepts it.
-pub prepared-shows : (p : List ℕ) → lengthGood p ≡ true → Sound (prepared (slotsIn p)) × Shows (preparedWords p) (prepared (slotsIn p))
+pub prepared-shows : (p : List ℕ) → lengthGood p ≡ true → Sound (prepared (slotsIn p)) × PoolShows (preparedWords p) (prepared (slotsIn p))
 unfolding preparedWords
 prepared-shows p h =
     let g = good-length p h in
@@ -114,4 +115,4 @@ prepared-shows p h =
 
 pub prepared-accepted : (p : List ℕ) → lengthGood p ≡ true → auditCode (preparedWords p) ≡ 0
 unfolding auditCode
-prepared-accepted p h = let S = prepared-shows p h in let r = show-rules (S .0) (S .1) in rw (r .0, r .1, auditCode)
+prepared-accepted p h = let S = prepared-shows p h in rw (audited-passed _ (S .0) (S .1))

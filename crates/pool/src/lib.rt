@@ -1,4 +1,5 @@
 // Prepare and audit. Every function here takes any words: none has a `requires`.
+use format::Audited;
 use format::Header;
 use format::Slot;
 use slots::FREE_WEIGHT;
@@ -6,6 +7,7 @@ use slots::free_slot;
 use slots::get_header;
 use slots::get_slot;
 use slots::is_slot;
+use slots::last_slot;
 use slots::length_good;
 use slots::put_header;
 use slots::put_slot;
@@ -15,7 +17,9 @@ use tree::MOST_LEVEL;
 use tree::MOST_SLOTS;
 use tree::Refusal;
 ghost use mathlib.Core.Path.{_≡_};
-ghost use Rattle.pool.specs.Results.{prepareCode, preparedWords, auditCode, audited, auditedCode};
+ghost use Rattle.format.specs.Audit.{audited, auditCode};
+ghost use Rattle.pool.specs.Results.{prepareCode, preparedWords};
+ghost use Rattle.pool.specs.Standing.{allowance};
 ghost use Rattle.pool.specs.Walks.{LeafSays, JoinSays, WalkSays, TopSays, FreeSays, ChainSays};
 
 // 01: "The root's is 1 and counts in nothing."
@@ -50,11 +54,18 @@ pub fn prepare(pool: &mut [u32]) -> u32
     Answer::DONE
 }
 
+// How deep a walk down a tree may go: (C + 1) / 2, since a tree of n nodes is at most (n + 1) / 2 nodes deep.
+pub fn allowance(pool: &[u32]) -> u32
+    ensures { λ r. ⌜ r ≡ allowance (now (pool .entry)) ⌝ }
+{
+    (last_slot(pool) + 1) / 2
+}
+
 // What a walk over a tree finds: a fault; or how many nodes the tree has, and what the weights from the edge above it down to each
 // leaf add up to.
 enum Walk {
     Bad,
-    Good(u32, u32),
+    Whole(u32, u32),
 }
 
 // The largest such sum: L, and the weight of the root, which counts in nothing and is taken off at the end.
@@ -79,7 +90,7 @@ fn walk_leaf(c: Slot, lo: u64, hi: u64) -> Walk
     if hi <= c.key as u64 {
         return Walk::Bad;
     }
-    Walk::Good(1, c.weight)
+    Walk::Whole(1, c.weight)
 }
 
 // An edge of weight w to an inner node, whose subtrees have an and bn nodes and the sums al and bl.
@@ -97,18 +108,18 @@ fn join(w: u32, an: u32, al: u32, bn: u32, bl: u32) -> Walk
     if (MOST_SLOTS as u64) < nodes {
         return Walk::Bad;
     }
-    Walk::Good(nodes as u32, sum as u32)
+    Walk::Whole(nodes as u32, sum as u32)
 }
 
 // The tree at slot s, its keys from lo to below hi, at most `left` nodes deep.
 //
 // On any words, with a first allowance of (C + 1) / 2, it is called at most C + (C + 1) / 2 + 1 times:
-// - The first Bad ends the whole walk. So every call has answered Good but those that are open then, one at most for each allowance
+// - The first Bad ends the whole walk. So every call has answered Whole but those that are open then, one at most for each allowance
 //   from (C + 1) / 2 down to 0.
-// - A call that answers Good has found a leaf, and all its leaves have keys within its bounds. A node's right side is walked once its
-//   left side has answered Good, with bounds that begin above the left side's keys. So of two leaves found, the later has the
+// - A call that answers Whole has found a leaf, and all its leaves have keys within its bounds. A node's right side is walked once its
+//   left side has answered Whole, with bounds that begin above the left side's keys. So of two leaves found, the later has the
 //   greater key.
-// - So no slot has two calls that answer Good. If one were inside the other, the slot's tree would be a part of itself, for the words
+// - So no slot has two calls that answer Whole. If one were inside the other, the slot's tree would be a part of itself, for the words
 //   at a slot decide the tree there. If one came after the other, both would find the same leaves. And there are C slots.
 // Shared subtrees, slots that point at one another and long ways down change nothing in this. Without the end at the first fault
 // a pool can ask for 2 ^ ((C + 1) / 2) calls.
@@ -126,10 +137,10 @@ fn walk_tree(pool: &[u32], s: u32, lo: u64, hi: u64, left: u32) -> Walk
         return walk_leaf(c, lo, hi);
     }
     let mid = c.key as u64 + 1;
-    let Walk::Good(an, al) = walk_tree(pool, c.left, lo, mid, left - 1) else {
+    let Walk::Whole(an, al) = walk_tree(pool, c.left, lo, mid, left - 1) else {
         return Walk::Bad;
     };
-    let Walk::Good(bn, bl) = walk_tree(pool, c.right, mid, hi, left - 1) else {
+    let Walk::Whole(bn, bl) = walk_tree(pool, c.right, mid, hi, left - 1) else {
         return Walk::Bad;
     };
     join(c.weight, an, al, bn, bl)
@@ -140,16 +151,16 @@ fn walk_top(pool: &[u32], root: u32, left: u32) -> Walk
     ensures { λ r. ⌜ TopSays (now (pool .entry)) root left r ⌝ }
 {
     if root == 0 {
-        return Walk::Good(0, 0);
+        return Walk::Whole(0, 0);
     }
     let c = get_slot(pool, root);
     if c.weight != ROOT_WEIGHT {
         return Walk::Bad;
     }
-    let Walk::Good(n, l) = walk_tree(pool, root, 0, KEY_END, left) else {
+    let Walk::Whole(n, l) = walk_tree(pool, root, 0, KEY_END, left) else {
         return Walk::Bad;
     };
-    Walk::Good(n, l - ROOT_WEIGHT)
+    Walk::Whole(n, l - ROOT_WEIGHT)
 }
 
 fn is_free(c: Slot) -> bool
@@ -190,26 +201,7 @@ fn walk_chain(pool: &[u32], first: u32, n: u32) -> bool
     true
 }
 
-// What the audit learns: that the length is wrong, that a rule is broken, or the header and L of a pool that keeps the rules.
-pub enum Audited {
-    Length,
-    Broken,
-    Sound(Header, u32),
-}
-
-impl Audited {
-    pub fn code(self) -> u32
-        ensures { λ r. ⌜ r ≡ auditedCode self ⌝ }
-    {
-        match self {
-            Audited::Length => Refusal::POOL_LENGTH,
-            Audited::Broken => Refusal::RULES_BROKEN,
-            Audited::Sound(_, _) => Answer::DONE,
-        }
-    }
-}
-
-// The audit. A tree of n nodes is at most (n + 1) / 2 nodes deep, so that is what the walk may take for C slots.
+// The audit.
 pub fn examine(pool: &[u32]) -> Audited
     ensures { λ r. ⌜ r ≡ audited (now (pool .entry)) ⌝ }
 {
@@ -227,13 +219,13 @@ pub fn examine(pool: &[u32]) -> Audited
     if !walk_chain(pool, h.free, slots - h.nodes) {
         return Audited::Broken;
     }
-    let Walk::Good(n, l) = walk_top(pool, h.root, (slots + 1) / 2) else {
+    let Walk::Whole(n, l) = walk_top(pool, h.root, allowance(pool)) else {
         return Audited::Broken;
     };
     if n != h.nodes {
         return Audited::Broken;
     }
-    Audited::Sound(h, l)
+    Audited::Passed(h, l)
 }
 
 // 01: "audit and report give 0, 1 or 2".

@@ -1,5 +1,4 @@
-pub mod Edges
-pub mod Walks
+pub mod Counting
 pub mod Reports
 pub mod Exact
 pub mod Decides

@@ -1,2 +1,2 @@
-pub mod Walks
+pub mod Counted
 pub mod Report

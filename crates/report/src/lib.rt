@@ -1,21 +1,21 @@
 // Document 01, Distances: the report's seven numbers, counted in two walks down the tree.
+use format::Audited;
 use format::Header;
-use pool::Audited;
+use pool::allowance;
 use pool::examine;
 use slots::get_slot;
-use slots::slots_in;
-use tree::Answer;
-use tree::Refusal;
+use tree::Figures;
 ghost use mathlib.Core.Path.{_≡_};
 ghost use Prim.Native.Nat.{pred, _+_, _*_, _-_, _≤_};
 ghost use Rattle.tree.specs.Tree.{red, one, overweighted};
-ghost use Rattle.tree.specs.State.{report};
+ghost use Rattle.tree.specs.Distances.{BoundFits};
+ghost use Rattle.tree.specs.State.{zeros, report};
 ghost use Rattle.format.specs.Words.{slotAt};
-ghost use Rattle.format.specs.Audit.{stateOf};
-ghost use Rattle.pool.specs.declared.Audited.the-variants.{Sound};
-ghost use Rattle.pool.specs.Results.{audited};
-ghost use Rattle.report.specs.Walks.{Standing, LoneLeaf, Small, Joined, Room, Adding, BelowRed, BelowOther, Over, BoundFits};
-ghost use Rattle.report.specs.Report.{reported, figuresOf, sevenZeros, reportOf, figureAt};
+ghost use Rattle.format.specs.declared.Audited.the-variants.{Passed};
+ghost use Rattle.format.specs.Audit.{stateOf, audited};
+ghost use Rattle.pool.specs.Standing.{Standing};
+ghost use Rattle.report.specs.Counted.{loneLeaf, joined, adding, redsIn, oversIn, Counts, Small, Fits};
+ghost use Rattle.report.specs.Report.{reportOf, figureAt};
 
 // 01: "Weight 0 is red, 1 black, above 1 overweighted."
 const RED: u32 = 0;
@@ -31,7 +31,7 @@ struct Counted {
 
 // A leaf by itself.
 fn lone_leaf() -> Counted
-    ensures { λ r. ⌜ LoneLeaf r ⌝ }
+    ensures { λ r. ⌜ r ≡ loneLeaf ⌝ }
 {
     Counted {
         nodes: 1,
@@ -43,7 +43,7 @@ fn lone_leaf() -> Counted
 // A node over two subtrees.
 fn joined(a: Counted, b: Counted) -> Counted
     requires { ⌜ Small a × Small b ⌝ }
-    ensures { λ r. ⌜ Joined a b r ⌝ }
+    ensures { λ r. ⌜ r ≡ joined a b ⌝ }
 {
     Counted {
         nodes: 1 + a.nodes + b.nodes,
@@ -54,8 +54,8 @@ fn joined(a: Counted, b: Counted) -> Counted
 
 // The same subtree with more counted in it.
 fn adding(t: Counted, number: u64, distance: u64) -> Counted
-    requires { ⌜ Room t number distance ⌝ }
-    ensures { λ r. ⌜ Adding t number distance r ⌝ }
+    requires { ⌜ Fits t number distance ⌝ }
+    ensures { λ r. ⌜ r ≡ adding t number distance ⌝ }
 {
     Counted {
         nodes: t.nodes,
@@ -80,10 +80,10 @@ fn is_red(pool: &[u32], s: u32) -> bool
     c.weight == RED
 }
 
-fn red_edge(red: bool) -> u64
-    ensures { λ r. ⌜ r ≡ one red ⌝ }
+fn red_edge(yes: bool) -> u64
+    ensures { λ r. ⌜ r ≡ one yes ⌝ }
 {
-    if red { 1 } else { 0 }
+    if yes { 1 } else { 0 }
 }
 
 // 01: "a node below a red edge adds one conflict per red child edge, a node below any other edge (and the root) adds none, and each
@@ -91,24 +91,16 @@ fn red_edge(red: bool) -> u64
 // outside(u) for each.
 fn below_red(pool: &[u32], s: u32, n: u32, left: u32) -> Counted
     requires { ⌜ Standing (now pool) s n left ⌝ }
-    ensures { λ r. ⌜ BelowRed (now (pool .entry)) s n r ⌝ }
+    ensures { λ r. ⌜ Counts (λ w t. redsIn n 0 t) (now (pool .entry)) s n left r ⌝ }
 {
     let c = get_slot(pool, s);
     if c.left == 0 {
         return lone_leaf();
     }
     let l = is_red(pool, c.left);
-    let a = if l {
-        below_red(pool, c.left, n, left - 1)
-    } else {
-        below_other(pool, c.left, n, left - 1)
-    };
+    let a = either(pool, l, c.left, n, left - 1);
     let r = is_red(pool, c.right);
-    let b = if r {
-        below_red(pool, c.right, n, left - 1)
-    } else {
-        below_other(pool, c.right, n, left - 1)
-    };
+    let b = either(pool, r, c.right, n, left - 1);
     let u = joined(a, b);
     let own = red_edge(l) + red_edge(r);
     adding(u, own, own * outside(n, u.nodes))
@@ -116,23 +108,27 @@ fn below_red(pool: &[u32], s: u32, n: u32, left: u32) -> Counted
 
 fn below_other(pool: &[u32], s: u32, n: u32, left: u32) -> Counted
     requires { ⌜ Standing (now pool) s n left ⌝ }
-    ensures { λ r. ⌜ BelowOther (now (pool .entry)) s n r ⌝ }
+    ensures { λ r. ⌜ Counts (λ w t. redsIn n 1 t) (now (pool .entry)) s n left r ⌝ }
 {
     let c = get_slot(pool, s);
     if c.left == 0 {
         return lone_leaf();
     }
-    let a = if is_red(pool, c.left) {
-        below_red(pool, c.left, n, left - 1)
-    } else {
-        below_other(pool, c.left, n, left - 1)
-    };
-    let b = if is_red(pool, c.right) {
-        below_red(pool, c.right, n, left - 1)
-    } else {
-        below_other(pool, c.right, n, left - 1)
-    };
+    let a = either(pool, is_red(pool, c.left), c.left, n, left - 1);
+    let b = either(pool, is_red(pool, c.right), c.right, n, left - 1);
     joined(a, b)
+}
+
+// A child is passed to the rule of the edge that leads to it.
+fn either(pool: &[u32], under_red: bool, s: u32, n: u32, left: u32) -> Counted
+    requires { ⌜ Standing (now pool) s n left × («under_red» ≡ red ((slotAt (now pool) s) .weight)) ⌝ }
+    ensures { λ r. ⌜ Counts (redsIn n) (now (pool .entry)) s n left r ⌝ }
+{
+    if under_red {
+        below_red(pool, s, n, left)
+    } else {
+        below_other(pool, s, n, left)
+    }
 }
 
 // 01: "overweighted edges (an edge counts once however heavy)".
@@ -157,7 +153,7 @@ fn excess(weight: u32) -> u64
 // to it. The root's weight is 1 and so counts in nothing.
 fn over(pool: &[u32], s: u32, n: u32, left: u32) -> Counted
     requires { ⌜ Standing (now pool) s n left ⌝ }
-    ensures { λ r. ⌜ Over (now (pool .entry)) s n r ⌝ }
+    ensures { λ r. ⌜ Counts (oversIn n) (now (pool .entry)) s n left r ⌝ }
 {
     let c = get_slot(pool, s);
     let u = if c.left == 0 {
@@ -183,17 +179,10 @@ fn step_bound(n: u64, d: u64, r: u64, q: u64) -> u64
     (3 * n + 1) * d + 2 * n * r + q
 }
 
-// 01: "The report gives seven numbers: N, L, overweighted edges (an edge counts once however heavy), R, D, Q, and
-// (3N+1)D + 2NR + Q." Before them its code: 0, 1 or 2.
+// The report's code, 0, 1 or 2, and its numbers.
 pub struct Reported {
     pub code: u32,
-    pub nodes: u64,
-    pub level: u64,
-    pub overweighted: u64,
-    pub conflicts: u64,
-    pub over_distance: u64,
-    pub red_distance: u64,
-    pub bound: u64,
+    pub figures: Figures,
 }
 
 impl Reported {
@@ -213,26 +202,26 @@ impl Reported {
 
     // 01: "takes an index, 1 first, and returns that number, 0 for a refused pool or any other index".
     pub fn number(self, index: u32) -> u64
-        ensures number { λ r. ⌜ r ≡ figureAt index (figuresOf self) ⌝ }
+        ensures number { λ r. ⌜ r ≡ figureAt index (self .figures) ⌝ }
     {
+        let f = self.figures;
         match index {
-            Reported::NODES => self.nodes,
-            Reported::LEVEL => self.level,
-            Reported::OVERWEIGHTED => self.overweighted,
-            Reported::CONFLICTS => self.conflicts,
-            Reported::OVER_DISTANCE => self.over_distance,
-            Reported::RED_DISTANCE => self.red_distance,
-            Reported::BOUND => self.bound,
+            Reported::NODES => f.nodes,
+            Reported::LEVEL => f.level,
+            Reported::OVERWEIGHTED => f.overweighted,
+            Reported::CONFLICTS => f.conflicts,
+            Reported::OVER_DISTANCE => f.over_distance,
+            Reported::RED_DISTANCE => f.red_distance,
+            Reported::BOUND => f.bound,
             _ => 0,
         }
     }
 }
 
-fn zeros(code: u32) -> Reported
-    ensures { λ r. ⌜ r ≡ reported code sevenZeros ⌝ }
+fn zeros() -> Figures
+    ensures { λ r. ⌜ r ≡ zeros ⌝ }
 {
-    Reported {
-        code,
+    Figures {
         nodes: 0,
         level: 0,
         overweighted: 0,
@@ -243,21 +232,20 @@ fn zeros(code: u32) -> Reported
     }
 }
 
-// The numbers of the tree that the words show, which passed the audit with the header h and this L. The walks go no deeper than
-// (C + 1) / 2, as the audit's does.
-fn figures(pool: &[u32], h: Header, level: u32) -> Reported
-    requires { ⌜ audited (now pool) ≡ Sound h level ⌝ }
-    ensures { λ r. ⌜ r ≡ reported 0 (report ((stateOf (now (pool .entry))) .top)) ⌝ }
+// The numbers of the tree that the words show, which passed the audit with the header h and this L. The walks go no deeper than the
+// audit's does.
+fn figures(pool: &[u32], h: Header, level: u32) -> Figures
+    requires { ⌜ audited (now pool) ≡ Passed h level ⌝ }
+    ensures { λ r. ⌜ r ≡ report ((stateOf (now (pool .entry))) .top) ⌝ }
 {
     if h.root == 0 {
-        return zeros(Answer::DONE);
+        return zeros();
     }
-    let left = (slots_in(pool) as u32 + 1) / 2;
+    let left = allowance(pool);
     let reds = below_other(pool, h.root, h.nodes, left);
     let heavy = over(pool, h.root, h.nodes, left);
     let n = h.nodes as u64;
-    Reported {
-        code: Answer::DONE,
+    Figures {
         nodes: n,
         level: level as u64,
         overweighted: heavy.number,
@@ -273,9 +261,14 @@ pub fn report(pool: &[u32]) -> Reported
     ensures report { λ r. ⌜ r ≡ reportOf (now (pool .entry)) ⌝ }
 {
     let seen = examine(pool);
-    match seen {
-        Audited::Length => zeros(Refusal::POOL_LENGTH),
-        Audited::Broken => zeros(Refusal::RULES_BROKEN),
-        Audited::Sound(h, level) => figures(pool, h, level),
+    let code = seen.code();
+    let figures = match seen {
+        Audited::Length => zeros(),
+        Audited::Broken => zeros(),
+        Audited::Passed(h, level) => figures(pool, h, level),
+    };
+    Reported {
+        code: code,
+        figures: figures,
     }
 }

@@ -12,25 +12,27 @@ use Rattle.tree.specs.declared.Answer.the-variants.{Done, Refused}
 use Rattle.tree.specs.declared.Refusal.{Refusal}
 use Rattle.tree.specs.declared.Refusal.the-variants.{KeyPresent, KeyAbsent, NoRoom}
 use Rattle.tree.specs.Codes.{codeOf}
-use Rattle.tree.specs.State.{keyEnd, Sound, Outcome, prepared, keysOf}
-use Rattle.tree.proofs.Updated.{occursTop, isIn, isIn-once, SearchSays, found, missing, InsertSays, present, no-room, added, DeleteSays, absent, removed}
+use Rattle.tree.specs.Tree.{countIn}
+use Rattle.tree.specs.State.{keyEnd, Sound, Outcome, prepared, keysOf, isIn}
+use Rattle.tree.proofs.Updated.{isIn-once, SearchSays, found, missing, InsertSays, present, no-room, added, DeleteSays, absent, removed}
 use Rattle.tree.proofs.Updated.{search-says as search-says-state, insert-says as insert-says-state, delete-says as delete-says-state, insert-sound, delete-sound}
 use Rattle.tree.proofs.StepState.{step-keeps-keys, step-sound-state}
 use Rattle.tree.proofs.Settling.{settle-sound-state}
 use Rattle.format.specs.Words.{slotsIn, lengthGood}
-use Rattle.format.specs.Shows.{Shows}
+use Rattle.format.specs.Shows.{PoolShows}
 use Rattle.format.proofs.Shown.{shows-length-good}
 use Rattle.pool.specs.Results.{preparedWords}
 use Rattle.pool.proofs.Prepares.{prepared-shows}
 use Rattle.updates.specs.Updating.{searchAnswer, insertAnswer, insertWords, deleteAnswer, deleteWords}
-use Rattle.updates.proofs.SearchShows.{search-shows}
-use Rattle.updates.proofs.InsertShows.{insert-shows}
-use Rattle.updates.proofs.DeleteShows.{delete-shows}
+use Rattle.updates.proofs.SearchShows.{search-entry}
+use Rattle.updates.proofs.InsertShows.{insert-entry}
+use Rattle.updates.proofs.DeleteShows.{delete-entry}
 use Rattle.steps.specs.Steps.{stepWords, settleWords}
-use Rattle.steps.proofs.StepShows.{step-shows}
-use Rattle.steps.proofs.SettleShows.{settle-shows}
+use Rattle.steps.proofs.StepShows.{step-entry}
+use Rattle.steps.proofs.SettleShows.{settle-entry}
 use Rattle.set.specs.Set.{Passing, member, held, room, needed, OneMore, SameSet, Prepared, Searched, here, nowhere, Inserted, key-present, room-lacking, inserted, Deleted, key-absent, gone, KeyCodes, InsertCodes}
-use Rattle.set.proofs.Members.{upwards-length, member-shown, held-shown, room-shown, needed-shown, room-held, one-more, same-set, Moves, insert-moves, delete-moves, step-free, settle-keeps-keys, settle-free}
+use Rattle.tree.proofs.Moves.{upwards-length, Moves, insert-moves, delete-moves, step-free, settle-keeps-keys, settle-free}
+use Rattle.set.proofs.Members.{member-shown, held-shown, room-shown, needed-shown, room-held, one-more, same-set}
 use Rattle.updates.proofs.Kept.{insert-kept, delete-kept}
 
 -- A set: no key is in it twice; and k keys take 2k - 1 slots.
@@ -41,13 +43,13 @@ pub room-exact : {p : List ℕ} → Passing p → pred (2 * held p) + room p ≡
 room-exact g = room-held (g .1) (g .2) ∙ sym (shows-length-good (g .1) (g .2) .1)
 
 pub prepare-says : (p : List ℕ) → lengthGood p ≡ true → Prepared (preparedWords p) (slotsIn p)
-unfolding prepared keysOf occursTop
+unfolding prepared keysOf countIn
 prepare-says p h =
     let s = prepared-shows p h in
     record { no-member = λ x. member-shown (s .0) (s .1) x; none-held = held-shown (s .0) (s .1); all-free = room-shown (s .0) (s .1) ∙ upwards-length 1 (slotsIn p) }
 
 pub search-says : {p : List ℕ} → Passing p → (x : ℕ) → Searched x p (searchAnswer p x)
-search-says {p} g x = rw (search-shows p x (g .0) (g .1) (g .2)) (go (search-says-state x (g .0) (g .1)))
+search-says {p} g x = rw (search-entry x (g .1) (g .2)) (go (search-says-state x (g .0) (g .1)))
   where
     is : member x p ≡ isIn x (g .0)
     is = member-shown (g .1) (g .2) x
@@ -64,16 +66,15 @@ search-codes {p} g x = go (search-says g x)
     go (nowhere i) = omega arith
 
 pub insert-says : {p : List ℕ} → Passing p → (x : ℕ) → x < keyEnd → Inserted x p (insertAnswer p x) (insertWords p x)
-unfolding occursTop
 insert-says {p} g x h =
-    let s = insert-shows p x (g .0) (g .1) (g .2) in
+    let s = insert-entry x (g .1) (g .2) in
     go (insert-says-state x (g .0) (g .1)) (insert-moves x (g .0) (g .1)) (insert-sound x (g .0) (g .1) h) (s .0) (s .1)
   where
     is : member x p ≡ isIn x (g .0)
     is = member-shown (g .1) (g .2) x
 
     go : {o : Outcome} → InsertSays x (g .0) o → Moves (g .0) o 0 1 → Sound (o .after) → insertAnswer p x ≡ o .answer
-        → Shows (insertWords p x) (o .after) → Inserted x p (insertAnswer p x) (insertWords p x)
+        → PoolShows (insertWords p x) (o .after) → Inserted x p (insertAnswer p x) (insertWords p x)
     go (present i) m t e f = rw (insert-kept p x KeyPresent e, e) (key-present (is ∙ i))
     go (no-room i r) m t e f = rw (insert-kept p x NoRoom e, e) (room-lacking (is ∙ i) (omega (arith, room-shown (g .1) (g .2), needed-shown (g .1) (g .2))))
     go (added i r k l) m t e f =
@@ -90,14 +91,14 @@ insert-codes {p} g x h = go (insert-says g x h)
 
 pub delete-says : {p : List ℕ} → Passing p → (x : ℕ) → Deleted x p (deleteAnswer p x) (deleteWords p x)
 delete-says {p} g x =
-    let s = delete-shows p x (g .0) (g .1) (g .2) in
+    let s = delete-entry x (g .1) (g .2) in
     go (delete-says-state x (g .0) (g .1)) (delete-moves x (g .0) (g .1)) (delete-sound x (g .0) (g .1)) (s .0) (s .1)
   where
     is : member x p ≡ isIn x (g .0)
     is = member-shown (g .1) (g .2) x
 
     go : {o : Outcome} → DeleteSays x (g .0) o → Moves (g .0) o 1 0 → Sound (o .after) → deleteAnswer p x ≡ o .answer
-        → Shows (deleteWords p x) (o .after) → Deleted x p (deleteAnswer p x) (deleteWords p x)
+        → PoolShows (deleteWords p x) (o .after) → Deleted x p (deleteAnswer p x) (deleteWords p x)
     go (absent i) m t e f = rw (delete-kept p x KeyAbsent e, e) (key-absent (is ∙ i))
     go (removed i n k) m t e f =
         rw (e ∙ ap Done (n ∙ sym (held-shown t f)))
@@ -113,11 +114,11 @@ delete-codes {p} g x = go (delete-says g x)
 -- Settle and step: the set and its room are as before.
 pub settle-same : {p : List ℕ} → Passing p → (budget : ℕ) → SameSet p (settleWords p budget)
 settle-same g b =
-    same-set (g .1) (g .2) (settle-sound-state (g .0) b (g .1)) (settle-shows (g .1) (g .2) b .1) (settle-keeps-keys (g .0) b (g .1)) (settle-free (g .0) b)
+    same-set (g .1) (g .2) (settle-sound-state (g .0) b (g .1)) (settle-entry (g .1) (g .2) b .1) (settle-keeps-keys (g .0) b (g .1)) (settle-free (g .0) b)
 
 pub step-same : {p : List ℕ} → Passing p → (s n : ℕ) → SameSet p (stepWords p s n)
 step-same g s n =
-    same-set (g .1) (g .2) (step-sound-state s n (g .0) (g .1)) (step-shows (g .1) (g .2) s n .1) (step-keeps-keys s n (g .0) (g .1)) (step-free s n (g .0))
+    same-set (g .1) (g .2) (step-sound-state s n (g .0) (g .1)) (step-entry (g .1) (g .2) s n .1) (step-keeps-keys s n (g .0) (g .1)) (step-free s n (g .0))
 
 -- The same by the answer, for code that matches on it.
 module _ {p : List ℕ} (g : Passing p) (x : ℕ) where

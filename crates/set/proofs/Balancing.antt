@@ -8,60 +8,58 @@
 use mathlib.Core.Path.{_≡_, refl, ap, sym, _∙_}
 use mathlib.Core.Logic.{_↔_, _⊎_, inl, inr}
 use mathlib.Core.List.{List}
-use mathlib.Core.Option.{Option, none, some}
 use native.Mathlib.Omega.{arith}
 use native.Mathlib.Decide.{decLe}
 use Prim.Native.Nat.{ℕ, _+_, _*_, _≤_, _<_}
 use Rattle.tree.specs.declared.Answer.{Answer}
 use Rattle.tree.specs.declared.Answer.the-variants.{Done, Spent}
 use Rattle.tree.specs.Codes.{kindNumber, codeOf, numberOf}
-use Rattle.tree.specs.Tree.{Tree}
 use Rattle.tree.specs.Distances.{bound}
 use Rattle.tree.specs.State.{State, Top, empty, full, Sound, report}
-use Rattle.tree.specs.Settle.{settled, settle}
+use Rattle.tree.specs.Settle.{settle}
 use Rattle.tree.proofs.StepState.{step-sound-state}
-use Rattle.tree.proofs.Settling.{lastAfter, settle-ends, sound-proper, settle-after, settle-answer, settle-number, settle-empty, settle-sound-state}
-use Rattle.tree.proofs.Settled.{trees-bounded}
-use Rattle.tree.proofs.Demand3.{boundOf, Balanced as BalancedState, accepted-falls, SomeAccepted, some-accepted-is, some-accepted as some-accepted-state, none-accepted as none-accepted-state, settle-code-0, settle-enough as settle-enough-state}
-use Rattle.format.specs.Shows.{Shows}
+use Rattle.tree.proofs.Settling.{settle-sound-state}
+use Rattle.tree.proofs.SettleAnswers.{settle-state-falls, Ended, ended-done, ended-spent, settle-ended}
+use Rattle.tree.proofs.Demand3.{boundOf, BalancedState, accepted-falls, SomeAccepted, some-accepted-is, some-accepted as some-accepted-state, none-accepted as none-accepted-state, settle-code-0, settle-enough as settle-enough-state}
+use Rattle.format.specs.Shows.{PoolShows}
 use Rattle.report.specs.declared.Reported.{Reported}
 use Rattle.report.specs.Report.{reportOf}
 use Rattle.report.proofs.Exact.{report-exact}
 use Rattle.steps.specs.Steps.{stepAnswer, stepWords, settleAnswer, settleWords}
-use Rattle.steps.proofs.StepShows.{step-shows}
-use Rattle.steps.proofs.SettleShows.{settle-shows}
+use Rattle.steps.proofs.StepShows.{step-entry}
+use Rattle.steps.proofs.SettleShows.{settle-entry}
 use Rattle.set.specs.Set.{Passing, Settles, done, spent}
 use Rattle.set.specs.Balance.{boundNumber, Balanced, Stepping, no-step, one-step}
 use Rattle.set.proofs.Passing.{step-passing}
 
 -- The report of words that show a sound State gives its numbers.
-module _ {p : List ℕ} {S : State} (sound : Sound S) (shows : Shows p S) where
+module _ {p : List ℕ} {S : State} (sound : Sound S) (shows : PoolShows p S) where
   pub bound-shown : boundNumber p ≡ boundOf S
   unfolding boundNumber
-  bound-shown = ap (λ (r : Reported). r .bound) (report-exact sound shows)
+  bound-shown = ap (λ (r : Reported). r .figures .bound) (report-exact sound shows)
 
   balanced-shown : Balanced p ↔ BalancedState S
   balanced-shown =
       let e = report-exact sound shows in
-      let c : (reportOf p) .conflicts ≡ (report (S .top)) .redConflicts = ap (λ (r : Reported). r .conflicts) e in
-      let o : (reportOf p) .overweighted ≡ (report (S .top)) .overweightEdges = ap (λ (r : Reported). r .overweighted) e in (
+      let c : (reportOf p) .figures .conflicts ≡ (report (S .top)) .conflicts = ap (λ (r : Reported). r .figures .conflicts) e in
+      let o : (reportOf p) .figures .overweighted ≡ (report (S .top)) .overweighted = ap (λ (r : Reported). r .figures .overweighted) e in (
         λ b. record { no-conflict = sym c ∙ b .no-conflict; no-overweight = sym o ∙ b .no-overweight },
         λ b. record { no-conflict = c ∙ b .no-conflict; no-overweight = o ∙ b .no-overweight },
       )
 
   -- (3N+1)D + 2NR + Q of the report's own numbers
-  formula : boundNumber p ≡ (3 * (reportOf p) .nodes + 1) * (reportOf p) .«over_distance» + 2 * (reportOf p) .nodes * (reportOf p) .conflicts + (reportOf p) .«red_distance»
+  formula : boundNumber p ≡ (3 * (reportOf p) .figures .nodes + 1) * (reportOf p) .figures .«over_distance» + 2 * (reportOf p) .figures .nodes * (reportOf p) .figures .conflicts + (reportOf p) .figures .«red_distance»
   unfolding report bound
   formula = bound-shown ∙ rw (report-exact sound shows) (go (S .top))
     where
-      go : (t : Top) → (report t) .stepBound ≡ (3 * (report t) .nodeCount + 1) * (report t) .overweightDistance + 2 * (report t) .nodeCount * (report t) .redConflicts + (report t) .redRedDistance
+      go : (t : Top) → (report t) .bound ≡ (3 * (report t) .nodes + 1) * (report t) .«over_distance» + 2 * (report t) .nodes * (report t) .conflicts + (report t) .«red_distance»
       go empty = refl
       go (full t) = refl
 
 -- Every accepted step call lowers the bound.
 pub step-falls : {p : List ℕ} → Passing p → (s n a : ℕ) → stepAnswer p s n ≡ Done a → boundNumber (stepWords p s n) < boundNumber p
 step-falls g s n a d =
-    let e = step-shows (g .1) (g .2) s n in
+    let e = step-entry (g .1) (g .2) s n in
     omega (arith, bound-shown (g .1) (g .2), bound-shown (step-sound-state s n (g .0) (g .1)) (e .1), accepted-falls s n a (g .0) (g .1) (sym (e .0) ∙ d))
 
 pub steps-bounded : {m : ℕ} {p q : List ℕ} → Passing p → Stepping m p q → m + boundNumber q ≤ boundNumber p
@@ -69,7 +67,7 @@ steps-bounded g no-step = omega arith
 steps-bounded g (one-step {a = a} s n d rest) = omega (arith, step-falls g s n a d, steps-bounded (step-passing g s n) rest)
 
 pub steps-few : {m : ℕ} {p q : List ℕ} → Passing p → Stepping m p q
-    → m ≤ (3 * (reportOf p) .nodes + 1) * (reportOf p) .«over_distance» + 2 * (reportOf p) .nodes * (reportOf p) .conflicts + (reportOf p) .«red_distance»
+    → m ≤ (3 * (reportOf p) .figures .nodes + 1) * (reportOf p) .figures .«over_distance» + 2 * (reportOf p) .figures .nodes * (reportOf p) .figures .conflicts + (reportOf p) .figures .«red_distance»
 steps-few g h = rw (← formula (g .1) (g .2)) (omega (arith, steps-bounded g h))
 
 -- Until the tree is red-black some slot and kind are accepted, and then none.
@@ -78,45 +76,15 @@ some-accepted {p} g = go (some-accepted-state (g .0) (g .1))
   where
     go : BalancedState (g .0) ⊎ SomeAccepted (g .0) → Balanced p ⊎ ((s n : ℕ) × (stepAnswer p s n ≡ Done n))
     go (inl b) = inl (balanced-shown (g .1) (g .2) .1 b)
-    go (inr (some-accepted-is s k d)) = inr (s, kindNumber k, step-shows (g .1) (g .2) s (kindNumber k) .0 ∙ d)
+    go (inr (some-accepted-is s k d)) = inr (s, kindNumber k, step-entry (g .1) (g .2) s (kindNumber k) .0 ∙ d)
 
 pub none-accepted : {p : List ℕ} → Passing p → Balanced p → (s n a : ℕ) → stepAnswer p s n ≡ Done a → ⊥
-none-accepted g b s n a d = none-accepted-state (g .0) (g .1) (balanced-shown (g .1) (g .2) .0 b) s n a (sym (step-shows (g .1) (g .2) s n .0) ∙ d)
-
--- Settle, of States: its steps lower the bound by as many; and how it answers.
-pub settle-state-falls : (S : State) (budget : ℕ) → Sound S → numberOf ((settle budget S) .answer) + boundOf ((settle budget S) .after) ≤ boundOf S
-unfolding report
-settle-state-falls S b h = go (S .top) refl
-  where
-    go : (T : Top) → S .top ≡ T → numberOf ((settle b S) .answer) + boundOf ((settle b S) .after) ≤ boundOf S
-    go empty e = rw (settle-empty S e b) (omega arith)
-    go (full t) e =
-        let before : boundOf S ≡ bound t = rw e in
-        let left : boundOf ((settle b S) .after) ≡ bound (lastAfter (S .slots) b t) = rw (settle-after S t e b) in
-        omega (arith, settle-number S t e b, trees-bounded (S .slots) b t (sound-proper S t e h))
-
--- done, with no step left; or spent, with the whole budget taken
-pub data Ended (budget : ℕ) : Answer → Type 0 where
-  ended-done : {n : ℕ} → Ended budget (Done n)
-  ended-spent : Ended budget (Spent budget)
-
-pub settle-ended : (S : State) (budget : ℕ) → Ended budget ((settle budget S) .answer)
-unfolding settled
-settle-ended S b = go (S .top) refl
-  where
-    tree : (n : ℕ) (o : Option Tree) → (n ≡ b) ⊎ (o ≡ none) → Ended b (settled n o)
-    tree n none h = ended-done
-    tree n (some u) (inl e) = rw e ended-spent
-    tree n (some u) (inr e) = let z : _≡_ {A = ℕ} 0 1 = cc in absurd (omega arith)
-
-    go : (T : Top) → S .top ≡ T → Ended b ((settle b S) .answer)
-    go empty e = rw (settle-empty S e b) ended-done
-    go (full t) e = rw (settle-answer S t e b) (tree _ _ (settle-ends (S .slots) b t))
+none-accepted g b s n a d = none-accepted-state (g .0) (g .1) (balanced-shown (g .1) (g .2) .0 b) s n a (sym (step-entry (g .1) (g .2) s n .0) ∙ d)
 
 -- Settle, of pools.
 module _ {p : List ℕ} (g : Passing p) (budget : ℕ) where
-  shown : (settleAnswer p budget ≡ (settle budget (g .0)) .answer) × Shows (settleWords p budget) ((settle budget (g .0)) .after)
-  shown = settle-shows (g .1) (g .2) budget
+  shown : (settleAnswer p budget ≡ (settle budget (g .0)) .answer) × PoolShows (settleWords p budget) ((settle budget (g .0)) .after)
+  shown = settle-entry (g .1) (g .2) budget
 
   pub settle-falls : numberOf (settleAnswer p budget) + boundNumber (settleWords p budget) ≤ boundNumber p
   settle-falls =

@@ -1,4 +1,3 @@
-pub mod Words
 pub mod Passing
 pub mod Balancing
 pub mod Members

@@ -16,8 +16,9 @@ use Rattle.tree.specs.declared.Refusal.the-variants.{NoRoom}
 use Rattle.tree.specs.Codes.{codeOf, numberOf}
 use Rattle.tree.specs.State.{keyEnd}
 use Rattle.format.specs.Words.{slotsIn, lengthGood}
-use Rattle.pool.specs.Results.{auditCode, preparedWords}
-use Rattle.pool.proofs.Audits.{Words32}
+use Rattle.format.specs.Audit.{auditCode}
+use Rattle.pool.specs.Results.{preparedWords}
+use Rattle.format.proofs.AuditCases.{Words32}
 use Rattle.updates.specs.Updating.{searchAnswer, insertAnswer, insertWords, deleteAnswer, deleteWords}
 use Rattle.updates.proofs.Kept as kept
 use Rattle.steps.specs.Steps.{stepAnswer, stepWords, settleAnswer, settleWords}

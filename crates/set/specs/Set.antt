@@ -5,23 +5,23 @@ use mathlib.Core.Logic.{_↔_}
 use mathlib.Core.List.{List}
 use lib.Dec.{eqb}
 use lib.ListN.{length}
-use Prim.Native.Nat.{ℕ, zero, suc, _+_, _≤_, _<_}
+use Prim.Native.Nat.{ℕ, _+_, _≤_, _<_}
 use Rattle.tree.specs.declared.Answer.{Answer}
 use Rattle.tree.specs.declared.Answer.the-variants.{Done, Refused, Spent}
 use Rattle.tree.specs.declared.Refusal.the-variants.{KeyPresent, KeyAbsent, NoRoom}
 use Rattle.tree.specs.Codes.{code}
-use Rattle.tree.specs.Tree.{one, countIn}
-use Rattle.tree.specs.State.{State, keysOf, Sound}
-use Rattle.format.specs.Shows.{Shows}
+use Rattle.tree.specs.Tree.{one}
+use Rattle.tree.specs.State.{State, keysOf, isIn, Sound, slotsNeeded}
+use Rattle.format.specs.Shows.{PoolShows}
 use Rattle.format.specs.Audit.{stateOf}
 
 -- The pool passes the audit: its words show a sound State. (`audit-passes`: exactly when the audit's code is 0.)
 abbrev pub Passing : List ℕ → Type 0
-Passing p = (S : State) × Sound S × Shows p S
+Passing p = (S : State) × Sound S × PoolShows p S
 
 -- whether the key x is in the set: 1, or 0
 unfoldable pub member : ℕ → List ℕ → ℕ
-member x p = countIn x (keysOf ((stateOf p) .top))
+member x p = isIn x (stateOf p)
 
 -- how many keys it has, and how many slots are free
 unfoldable pub held : List ℕ → ℕ
@@ -30,13 +30,9 @@ held p = length (keysOf ((stateOf p) .top))
 unfoldable pub room : List ℕ → ℕ
 room p = length ((stateOf p) .free)
 
--- 01, code 7: "fewer free slots than needed (1 if empty, else 2)"
-unfoldable pub neededFor : ℕ → ℕ
-neededFor zero = 1
-neededFor (suc n) = 2
-
-abbrev pub needed : List ℕ → ℕ
-needed p = neededFor (held p)
+-- how many slots the next key needs: 1 if the set is empty, else 2
+unfoldable pub needed : List ℕ → ℕ
+needed p = slotsNeeded ((stateOf p) .top)
 
 -- q has the key x and every key that p has, and no other; what p needed for it is taken.
 pub record OneMore (x : ℕ) (p q : List ℕ) : Type 0 where

@@ -14,10 +14,14 @@ use Rattle.slots.proofs.put_header.Kinds as put-header-kinds
 use Rattle.slots.proofs.put_header.Reads as put-header-reads
 use Rattle.slots.proofs.slots_in.Kinds as slots-in-kinds
 use Rattle.slots.proofs.slots_in.Reads as slots-in-reads
+use Rattle.slots.proofs.last_slot.Kinds as last-slot-kinds
+use Rattle.slots.proofs.last_slot.Reads as last-slot-reads
 use Rattle.slots.proofs.length_good.Kinds as length-good-kinds
 use Rattle.slots.proofs.length_good.Reads as length-good-reads
 use Rattle.slots.proofs.is_slot.Kinds as is-slot-kinds
 use Rattle.slots.proofs.is_slot.Reads as is-slot-reads
+use Rattle.slots.proofs.one_less.Kinds as one-less-kinds
+use Rattle.slots.proofs.one_less.Reads as one-less-reads
 use Rattle.slots.proofs.free_slot.Kinds as free-slot-kinds
 use Rattle.slots.proofs.free_slot.Reads as free-slot-reads
 
@@ -42,11 +46,17 @@ put-header-decides κs a x y e f p q = equal p q
 pub slots-in-decides : DecidesResult 1 slots-in-kinds.ps slots-in-kinds.r slots-in-reads.Post
 slots-in-decides κs a x y e f p q = equal p q
 
+pub last-slot-decides : DecidesResult 1 last-slot-kinds.ps last-slot-kinds.r last-slot-reads.Post
+last-slot-decides κs a x y e f p q = equal p q
+
 pub length-good-decides : DecidesResult 1 length-good-kinds.ps length-good-kinds.r length-good-reads.Post
 length-good-decides κs a x y e f p q = equal p q
 
 pub is-slot-decides : DecidesResult 1 is-slot-kinds.ps is-slot-kinds.r is-slot-reads.Post
 is-slot-decides κs a x y e f p q = equal p q
+
+pub one-less-decides : DecidesResult 0 one-less-kinds.ps one-less-kinds.r one-less-reads.Post
+one-less-decides κs a x y e f p q = equal p q
 
 pub free-slot-decides : DecidesResult 0 free-slot-kinds.ps free-slot-kinds.r free-slot-reads.Post
 free-slot-decides κs a x y e f p q = equal p q

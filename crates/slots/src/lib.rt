@@ -5,7 +5,8 @@ use format::Slot;
 use tree::MOST_SLOTS;
 ghost use mathlib.Core.Path.{_≡_};
 ghost use lib.ListN.{getD, set};
-ghost use Rattle.format.specs.Words.{headerOf, putHeader, slotAt, putSlot, slotsIn, lengthGood, freeSlot};
+ghost use Prim.Native.Nat.{pred};
+ghost use Rattle.format.specs.Words.{headerOf, putHeader, slotAt, putSlot, slotsIn, lastSlot, lengthGood, freeSlot};
 ghost use Rattle.format.specs.Audit.{isSlot};
 
 // 01: "4 header words, then 4 words for each of C slots".
@@ -77,13 +78,23 @@ pub fn get_header(pool: &[u32]) -> Header
     }
 }
 
+// Word i, written only where it changes.
+fn renew_word(pool: &mut [u32], i: usize, x: u32)
+    ensures { λ _. ⌜ now (pool .exit) ≡ set (now (pool .entry)) i x ⌝ }
+{
+    if word(pool, i) != x {
+        put_word(pool, i, x);
+    }
+}
+
+// A word of the header that stays is not written, so a search, a refused command and a refused call write no pool word.
 pub fn put_header(pool: &mut [u32], h: Header)
     ensures { λ _. ⌜ now (pool .exit) ≡ putHeader (now (pool .entry)) h ⌝ }
 {
-    put_word(pool, 0, h.root);
-    put_word(pool, 1, h.free);
-    put_word(pool, 2, h.nodes);
-    put_word(pool, 3, h.spare);
+    renew_word(pool, 0, h.root);
+    renew_word(pool, 1, h.free);
+    renew_word(pool, 2, h.nodes);
+    renew_word(pool, 3, h.spare);
 }
 
 // C, of a pool of any length.
@@ -92,6 +103,18 @@ pub fn slots_in(pool: &[u32]) -> usize
 {
     let parts = pool.len() / SLOT_WORDS;
     if parts == 0 { 0 } else { parts - 1 }
+}
+
+// The last slot: C, and no more than MOST_SLOTS of a pool that is longer than 01 allows.
+pub fn last_slot(pool: &[u32]) -> u32
+    ensures { λ r. ⌜ r ≡ lastSlot (now (pool .entry)) ⌝ }
+{
+    let c = slots_in(pool);
+    if c <= MOST_SLOTS as usize {
+        c as u32
+    } else {
+        MOST_SLOTS
+    }
 }
 
 // 01: "C from 1 to 1,023, so its length is 4 + 4C."
@@ -116,6 +139,13 @@ pub fn is_slot(pool: &[u32], s: u32) -> bool
         return false;
     }
     s as usize <= slots_in(pool)
+}
+
+// A weight or a count that falls by 1; 0 stays.
+pub fn one_less(n: u32) -> u32
+    ensures { λ r. ⌜ r ≡ pred n ⌝ }
+{
+    if n == 0 { 0 } else { n - 1 }
 }
 
 pub fn free_slot(next: u32) -> Slot

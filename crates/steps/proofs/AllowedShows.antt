@@ -19,20 +19,22 @@ use Rattle.tree.specs.Tree.{Tree, isLeaf, count, countIn}
 use Rattle.tree.specs.Kinds.{conditionAt, atLimit}
 use Rattle.tree.specs.State.{State, empty, full, countTop, Sound}
 use Rattle.tree.specs.Settle.{allowed, lowestKind, lowestStep}
-use Rattle.tree.proofs.Steps.{step-inner, made, innerAt as innerIn}
-use Rattle.tree.proofs.StepState.{tree-count, tree-slot, tree-good, tree-once}
-use Rattle.format.specs.Words.{slotAt, headerOf}
+use Rattle.tree.proofs.Steps.{step-inner, made, innerIn}
+use Rattle.tree.proofs.SoundStates.{tree-count, tree-slot, tree-good, tree-once}
+use Rattle.format.specs.declared.Header.{Header}
+use Rattle.format.specs.Words.{slotAt, lastSlot}
 use Rattle.format.specs.Shows.{Chain, chain-end, chain-more, Shows}
 use Rattle.tree.proofs.Counts.{in-chain}
 use Rattle.format.proofs.Frame.{rootSlot, holds-root}
 use Rattle.format.proofs.Replace.{in-holds, find-slot, holdsAt-none, holdsAt-in}
+use Rattle.format.proofs.Shown.{shows-tree}
 use Rattle.kinds.specs.Around.{aroundAt}
 use Rattle.kinds.specs.Conditions.{fits}
 use Rattle.kinds.proofs.ConditionShows.{condition-shows}
-use Rattle.steps.specs.declared.Found.{Found}
-use Rattle.steps.specs.declared.Found.the-variants.{At, Nothing}
-use Rattle.steps.specs.Steps.{lastSlot, hasChildren, innerSlot, innerAt, limitAt, allowedAround, allowedWords, firstKind, firstFrom, firstAllowed}
-use Rattle.steps.proofs.LevelShows.{last-slot-is, children-held, tree-held-is, limit-shows}
+use Rattle.steps.specs.declared.Lowest.{Lowest}
+use Rattle.steps.specs.declared.Lowest.the-variants.{At, Nothing}
+use Rattle.steps.specs.Steps.{hasChildren, innerSlot, innerAt, limitAt, allowedAround, allowedWords, firstKind, firstFrom, firstAllowed}
+use Rattle.steps.proofs.LevelShows.{last-slot-is, children-held, limit-shows}
 
 -- "A free slot is 0, next free slot, 0, 4,294,967,295": it has no children.
 free-bare : {p : List ℕ} {a : ℕ} {fs : List ℕ} → Chain p a fs → (s : ℕ) → 1 ≤ countIn s fs → hasChildren (slotAt p s) ≡ false
@@ -40,63 +42,43 @@ unfolding countIn
 free-bare chain-end s i = absurd (omega arith)
 free-bare (chain-more {s = v} {fs = fs} h c) s i = in-chain s v fs i (λ e. rw (e, h .content)) (free-bare c s)
 
--- a slot outside the pool, and one inside
-module _ {p : List ℕ} {S : State} (sound : Sound S) (shows : Shows p S) (s : ℕ) where
-  inner-outside : (1 ≤ s → s ≤ S .slots → ⊥) → innerAt p s ≡ false
-  unfolding innerSlot
-  inner-outside n = go (decLe 1 s) (decLe s (S .slots))
-    where
-      go : Dec (1 ≤ s) → Dec (s ≤ S .slots) → (leb 1 s && leb s (lastSlot p) && hasChildren (slotAt p s)) ≡ false
-      go (no a) d = rw (lt-leb 1 s (omega arith))
-      go (yes a) (no b) = rw (last-slot-is sound shows, lt-leb s (S .slots) (omega arith), le-leb 1 s a)
-      go (yes a) (yes b) = absurd (n a b)
-
+module _ {h : Header} {p : List ℕ} {S : State} (sound : Sound S) (shows : Shows h p S) (s : ℕ) where
   inner-inside : 1 ≤ s → s ≤ S .slots → innerAt p s ≡ hasChildren (slotAt p s)
   unfolding innerSlot
   inner-inside a b = rw (last-slot-is sound shows, le-leb s (S .slots) b, le-leb 1 s a)
 
--- No inner node in an empty tree.
-pub inner-empty : {p : List ℕ} {S : State} → Sound S → Shows p S → S .top ≡ empty → (s : ℕ) → innerAt p s ≡ false
-unfolding countTop
-inner-empty {p} {S} sound shows e s = go (decLe 1 s) (decLe s (S .slots))
-  where
-    go : Dec (1 ≤ s) → Dec (s ≤ S .slots) → innerAt p s ≡ false
-    go (no a) d = inner-outside sound shows s (λ x y. omega arith)
-    go (yes a) (no b) = inner-outside sound shows s (λ x y. omega arith)
-    go (yes a) (yes b) =
-        let once : 0 + countIn s (S .free) ≡ 1 = rw e at (sound .once s a b) in
-        inner-inside sound shows s a b ∙ free-bare (shows .chain-held) s (omega arith)
-
-module _ (S : State) (t : Tree) (sound : Sound S) (e : S .top ≡ full t) (p : List ℕ) (shows : Shows p S) where
-  -- a slot that does not stand in the tree, as no slot outside the pool does
-  inner-absent : (s : ℕ) → count s t ≡ 0 → innerIn s 1 t ≡ false
-  inner-absent s n = holdsAt-none (λ w u. not (isLeaf u)) s 1 t n
-
-  absent-outside : (s : ℕ) → (1 ≤ s → s ≤ S .slots → ⊥) → count s t ≡ 0
-  absent-outside s n = go (decLe 1 (count s t))
+  -- A slot that does not stand in the tree is outside the pool or on the chain.
+  inner-absent : countTop s (S .top) ≡ 0 → innerAt p s ≡ false
+  unfolding innerSlot
+  inner-absent n = go (decLe 1 s) (decLe s (S .slots))
     where
-      go : Dec (1 ≤ count s t) → count s t ≡ 0
-      go (yes i) = let x = tree-slot S t sound e s i in absurd (n (x .numbered) (x .within))
-      go (no i) = omega arith
+      go : Dec (1 ≤ s) → Dec (s ≤ S .slots) → (leb 1 s && leb s (lastSlot p) && hasChildren (slotAt p s)) ≡ false
+      go (no a) d = rw (lt-leb 1 s (omega arith))
+      go (yes a) (no b) = rw (last-slot-is sound shows, lt-leb s (S .slots) (omega arith), le-leb 1 s a)
+      go (yes a) (yes b) = inner-inside a b ∙ free-bare (shows .chain-held) s (omega (arith, sound .once s a b))
 
+  pub inner-empty : S .top ≡ empty → innerAt p s ≡ false
+  unfolding countTop
+  inner-empty e = inner-absent (rw e)
+
+-- the lowest step, as the code says it
+unfoldable pub lowestOf : Option (ℕ × Kind) → Lowest
+lowestOf (some a) = At (a .0) (a .1)
+lowestOf none = Nothing
+
+module _ (S : State) (t : Tree) (sound : Sound S) (e : S .top ≡ full t) {h : Header} (p : List ℕ) (shows : Shows h p S) where
   pub inner-shows : (s : ℕ) → innerAt p s ≡ innerIn s 1 t
-  inner-shows s = go (decLe 1 s) (decLe s (S .slots)) (decLe 1 (count s t))
+  inner-shows s = go (decLe 1 (count s t))
     where
-      outside : (1 ≤ s → s ≤ S .slots → ⊥) → innerAt p s ≡ innerIn s 1 t
-      outside n = inner-outside sound shows s n ∙ sym (inner-absent s (absent-outside s n))
-
-      go : Dec (1 ≤ s) → Dec (s ≤ S .slots) → Dec (1 ≤ count s t) → innerAt p s ≡ innerIn s 1 t
-      go (no a) d i = outside (λ x y. omega arith)
-      go (yes a) (no b) i = outside (λ x y. omega arith)
-      go (yes a) (yes b) (no i) =
-          let c = tree-count S t sound e s in
-          inner-inside sound shows s a b ∙ (free-bare (shows .chain-held) s (omega (arith, sound .once s a b)) ∙ sym (inner-absent s (omega arith)))
-      go (yes a) (yes b) (yes i) =
+      go : Dec (1 ≤ count s t) → innerAt p s ≡ innerIn s 1 t
+      go (no n) = inner-absent sound shows s (omega (arith, tree-count S t sound e s)) ∙ sym (holdsAt-none (λ w u. not (isLeaf u)) s 1 t (omega arith))
+      go (yes i) =
+          let own = tree-slot S t sound e s i in
           let x = find-slot s 1 t i in
           let y = x .stands 0 t in
-          let held = in-holds (y .put) (tree-held-is S t sound e p shows) in
+          let held = in-holds (y .put) (shows-tree shows e) in
           let here : slotAt p s ≡ rootSlot (x .weight) (x .tree) = ap (slotAt p) (sym (x .at)) ∙ holds-root held .content in
-          inner-inside sound shows s a b
+          inner-inside sound shows s (own .numbered) (own .within)
           ∙ (ap hasChildren here ∙ (children-held held ∙ sym (holdsAt-in (λ w u. not (isLeaf u)) (y .put) (x .at) (tree-once S t sound e s))))
 
   -- A slot that is no inner node has no condition that holds.
@@ -104,40 +86,34 @@ module _ (S : State) (t : Tree) (sound : Sound S) (e : S .top ≡ full t) (p : L
   no-condition k s i = go (conditionAt k s t) refl
     where
       go : (b : Bool) → conditionAt k s t ≡ b → b ≡ false
-      go true h = absurd (false≢true (sym i ∙ step-inner (made k s t (tree-good S t sound e .chromatic) (tree-once S t sound e s) h .step)))
-      go false h = refl
+      go true c = absurd (false≢true (sym i ∙ step-inner (made k s t (tree-good S t sound e .chromatic) (tree-once S t sound e s) c .step)))
+      go false c = refl
 
-  pub allowed-shows : (k : Kind) (s : ℕ) → allowedWords k ((headerOf p) .root) p s ≡ allowed s k t
+  allowed-shows : (k : Kind) (s : ℕ) → allowedWords k (h .root) p s ≡ allowed s k t
   unfolding allowedWords allowedAround allowed
   allowed-shows k s = go (innerIn s 1 t) refl
     where
       go : (b : Bool) → innerIn s 1 t ≡ b
-          → (innerAt p s && (fits k (aroundAt p s) && not (limitAt k ((headerOf p) .root) p s))) ≡ (conditionAt k s t && not (atLimit k s t))
+          → (innerAt p s && (fits k (aroundAt p s) && not (limitAt k (h .root) p s))) ≡ (conditionAt k s t && not (atLimit k s t))
       go true i = rw (inner-shows s ∙ i, condition-shows S t sound e p shows k s i, limit-shows S t sound e p shows k s)
       go false i = rw (inner-shows s ∙ i, no-condition k s i)
 
   -- The scans go alike.
-  kind-shows : (ks : List Kind) (s : ℕ) → firstKind ks ((headerOf p) .root) p s ≡ lowestKind ks s t
+  kind-shows : (ks : List Kind) (s : ℕ) → firstKind ks (h .root) p s ≡ lowestKind ks s t
   unfolding firstKind lowestKind
   kind-shows [] s = refl
   kind-shows (k ∷ ks) s = rw (allowed-shows k s, firstKind) (ap (λ o. elim (allowed s k t) [ true ↦ some k | false ↦ o ]) (kind-shows ks s))
 
--- what is found, from what the definition says is lowest
-unfoldable pub foundOf : Option (ℕ × Kind) → Found
-foundOf (some a) = At (a .0) (a .1)
-foundOf none = Nothing
-
-module _ (S : State) (t : Tree) (sound : Sound S) (e : S .top ≡ full t) (p : List ℕ) (shows : Shows p S) where
-  from-shows : (n s : ℕ) → firstFrom n ((headerOf p) .root) p s ≡ foundOf (lowestStep n s t)
-  unfolding firstFrom lowestStep foundOf
+  from-shows : (n s : ℕ) → firstFrom n (h .root) p s ≡ lowestOf (lowestStep n s t)
+  unfolding firstFrom lowestStep lowestOf
   from-shows zero s = refl
-  from-shows (suc n) s = rw (kind-shows S t sound e p shows kinds s, firstFrom) (go (lowestKind kinds s t) (from-shows n (suc s)))
+  from-shows (suc n) s = rw (kind-shows kinds s, firstFrom) (go (lowestKind kinds s t) (from-shows n (suc s)))
     where
-      go : (o : Option Kind) → firstFrom n ((headerOf p) .root) p (suc s) ≡ foundOf (lowestStep n (suc s) t)
-          → elim o [ some k ↦ At s k | none ↦ firstFrom n ((headerOf p) .root) p (suc s) ] ≡ foundOf (elim o [ some k ↦ some (s, k) | none ↦ lowestStep n (suc s) t ])
+      go : (o : Option Kind) → firstFrom n (h .root) p (suc s) ≡ lowestOf (lowestStep n (suc s) t)
+          → elim o [ some k ↦ At s k | none ↦ firstFrom n (h .root) p (suc s) ] ≡ lowestOf (elim o [ some k ↦ some (s, k) | none ↦ lowestStep n (suc s) t ])
       go (some k) rest = refl
       go none rest = rest
 
-  pub first-shows : firstAllowed ((headerOf p) .root) p ≡ foundOf (lowestStep (S .slots) 1 t)
+  pub first-shows : firstAllowed (h .root) p ≡ lowestOf (lowestStep (S .slots) 1 t)
   unfolding firstAllowed
   first-shows = rw (last-slot-is sound shows) (from-shows (S .slots) 1)

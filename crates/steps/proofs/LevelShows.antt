@@ -1,6 +1,6 @@
--- L, and the limit on it: in words that show a sound State, the walk to the first leaf adds up the tree's level (`level-shows`), and
+-- L, and the limit on it: in words that show a sound State, the way to the first leaf adds up the tree's level (`level-shows`), and
 -- kind 1 is refused for it where the definition says (`limit-shows`). C is the State's (`last-slot-is`).
--- Why: the walk goes down the left edges, which are fewer than the tree's nodes, and those are at most C; and the sum stays at most 255,
+-- Why: the way goes down the left edges, which are fewer than the tree's nodes, and those are at most C; and the sum stays at most 255,
 -- so it does not wrap. Assumes nothing.
 use mathlib.Core.Path.{_≡_, refl, ap, _∙_}
 use mathlib.Core.Bool.{not}
@@ -15,18 +15,16 @@ use Rattle.tree.specs.declared.Kind.the-variants.{Blacken, SingleLeft, SingleRi
 use Rattle.tree.specs.Tree.{Tree, slotOf, isLeaf, size, level}
 use Rattle.tree.specs.Kinds.{atLimit}
 use Rattle.tree.specs.State.{State, full, nodes, Sound}
-use Rattle.tree.proofs.StepState.{tree-good}
-use Rattle.format.specs.Words.{headerOf, rootOf}
-use Rattle.format.specs.Shows.{Holds, holds-leaf, holds-node, HoldsTop, Shows}
-use Rattle.format.proofs.Frame.{rootSlot, holds-root}
-use Rattle.format.proofs.Shown.{shows-root, shows-length-good}
-use Rattle.format.proofs.Cover.{sound-total}
-use Rattle.kinds.proofs.Seen.{weight-root}
-use Rattle.steps.specs.Steps.{lastSlot, hasChildren, levelFrom, levelAt, limitAt}
-use Rattle.steps.proofs.Walk.{level-leaf, level-next}
+use Rattle.tree.proofs.SoundStates.{sound-total, tree-good}
+use Rattle.format.specs.declared.Header.{Header}
+use Rattle.format.specs.Words.{slotAt, rootOf, lastSlot}
+use Rattle.format.specs.Shows.{Holds, holds-leaf, holds-node, Shows}
+use Rattle.format.proofs.Frame.{rootSlot, holds-root, weight-of-root}
+use Rattle.format.proofs.Shown.{shows-root, shows-tree, shows-length-good}
+use Rattle.steps.specs.Steps.{hasChildren, levelFrom, levelAt, limitAt}
+use Rattle.steps.proofs.LevelSum.{level-leaf, level-next}
 
-pub last-slot-is : {p : List ℕ} {S : State} → Sound S → Shows p S → lastSlot p ≡ S .slots
-unfolding lastSlot
+pub last-slot-is : {h : Header} {p : List ℕ} {S : State} → Sound S → Shows h p S → lastSlot p ≡ S .slots
 last-slot-is sound shows = let e = shows-length-good sound shows .1 in let f = sound .few in rw e (omega arith)
 
 -- "a leaf has left and right 0; an inner node has both from 1 to C"
@@ -41,28 +39,26 @@ level-from {p} {w} (holds-leaf {s = s} {k = k} h) n sum f g = level-leaf n p _ s
 level-from (holds-node h hl hr) zero sum f g = absurd (omega arith)
 level-from {p} (holds-node {wl = wl} {l = l} h hl hr) (suc n) sum f g =
     level-next (suc n) n p _ sum (omega arith) (children-held (holds-node h hl hr))
-    ∙ rw (holds-root hl .content, weight-root wl l, mod-eq-of-lt {n = sum + wl} {m = 2 ^ 32} (omega arith)) (level-from hl n (sum + wl) (omega arith) (omega arith) ∙ omega arith)
+    ∙ rw (holds-root hl .content, weight-of-root wl l, mod-eq-of-lt {n = sum + wl} {m = 2 ^ 32} (omega arith)) (level-from hl n (sum + wl) (omega arith) (omega arith) ∙ omega arith)
 
-module _ (S : State) (t : Tree) (sound : Sound S) (e : S .top ≡ full t) (p : List ℕ) (shows : Shows p S) where
-  pub root-is : (headerOf p) .root ≡ slotOf t
+module _ (S : State) (t : Tree) (sound : Sound S) (e : S .top ≡ full t) {h : Header} (p : List ℕ) (shows : Shows h p S) where
+  root-is : h .root ≡ slotOf t
   unfolding rootOf
   root-is = shows-root shows ∙ ap rootOf e
 
-  pub tree-held-is : Holds p 1 t
-  unfolding HoldsTop
-  tree-held-is = rw e at (shows .tree-held)
-
-  pub level-shows : levelAt ((headerOf p) .root) p ≡ level t
+  level-shows : levelAt (h .root) p ≡ level t
   unfolding levelAt nodes
   level-shows =
+      let held = shows-tree shows e in
+      let root : slotAt p (h .root) ≡ rootSlot 1 t = ap (slotAt p) root-is ∙ holds-root held .content in
       let low = tree-good S t sound e .low in
       let c = last-slot-is sound shows in
       let total : size t + length (S .free) ≡ S .slots = rw e at (sound-total sound) in
-      rw (root-is, holds-root tree-held-is .content) (level-from tree-held-is (lastSlot p) 0 (omega arith) (omega arith) ∙ omega arith)
+      rw root (level-from held (lastSlot p) 0 (omega arith) (omega arith) ∙ omega arith)
 
-  pub limit-shows : (k : Kind) (s : ℕ) → limitAt k ((headerOf p) .root) p s ≡ atLimit k s t
+  pub limit-shows : (k : Kind) (s : ℕ) → limitAt k (h .root) p s ≡ atLimit k s t
   unfolding limitAt atLimit
-  limit-shows Blacken s = rw (level-shows, root-is)
+  limit-shows Blacken s = rw (level-shows, ← root-is)
   limit-shows SingleLeft s = refl
   limit-shows SingleRight s = refl
   limit-shows DoubleLeft s = refl

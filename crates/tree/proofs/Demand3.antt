@@ -1,7 +1,7 @@
 -- Demand 3, of sound States and the commands `step` and `settle`: every accepted step lowers (3N+1)D + 2NR + Q, the report's last
 -- number, so that at most so many are accepted in a row, of any slots and kinds (`accepted-falls`, `accepted-bounded`); some step
--- is accepted until the tree is red-black, and then none (`some-accepted`, `none-accepted`); settle takes at most so many steps,
--- answers code 0 exactly when it leaves a red-black tree, and does so with so large a budget (`settle-bounded` to `settle-enough`).
+-- is accepted until the tree is red-black, and then none (`some-accepted`, `none-accepted`); settle answers code 0 exactly
+-- when it leaves a red-black tree, and does so with so large a budget (`settle-code-0`, `settle-enough`; its steps: SettleAnswers.antt).
 -- Why: a sound State's tree is what the laws on trees ask, and an accepted step is one of theirs; an empty tree allows none.
 -- Assumes nothing.
 use mathlib.Core.Path.{_≡_, refl, ap}
@@ -10,41 +10,42 @@ use native.Mathlib.Omega.{arith}
 use Prim.Native.Nat.{ℕ, suc, _+_, _≤_, _<_}
 use Rattle.tree.specs.declared.Kind.{Kind}
 use Rattle.tree.specs.declared.Answer.the-variants.{Done}
-use Rattle.tree.specs.Codes.{kindNumber, codeOf, numberOf}
+use Rattle.tree.specs.Codes.{kindNumber, codeOf}
 use Rattle.tree.specs.Tree.{Tree, size}
 use Rattle.tree.specs.Distances.{bound, RedBlack}
 use Rattle.tree.specs.State.{State, Top, empty, full, Sound, Outcome, step, report}
 use Rattle.tree.specs.Settle.{settle}
 use Rattle.tree.proofs.KindNumbers.{named-known}
 use Rattle.tree.proofs.Steps.{step-whole}
-use Rattle.tree.proofs.StepState.{tree-good, tree-once, tree-slot, Stepping, refused, taken, stepping, step-sound-state, Accepted, accepted-iff}
-use Rattle.tree.proofs.Limits.{widest, slots-within, size-within}
+use Rattle.tree.proofs.StepState.{tree-good, tree-once, tree-slot, StepCase, refused, taken, stepping, step-sound-state, Accepted, accepted-iff}
+use Rattle.tree.proofs.Totals.{size-within}
+use Rattle.tree.proofs.Limits.{widest, slots-within}
 use Rattle.tree.proofs.Bound.{bound-falls}
 use Rattle.tree.proofs.Progress.{none-when-red-black, Accepts, accepts, step-until-red-black}
-use Rattle.tree.proofs.Settling.{lastAfter, proper-made, sound-proper, settle-after, settle-number, settle-code, settle-empty}
-use Rattle.tree.proofs.Settled.{Held, trees-bounded, settle-held, none-left-exactly, settles-red-black}
+use Rattle.tree.proofs.Settling.{lastAfter, proper-made, sound-proper, settle-after, settle-code, settle-empty}
+use Rattle.tree.proofs.Settled.{Held, settle-held, none-left-exactly, settles-red-black}
 
 -- (3N+1)D + 2NR + Q, as the report gives it
 abbrev pub boundOf : State → ℕ
-boundOf S = (report (S .top)) .stepBound
+boundOf S = (report (S .top)) .bound
 
 -- "Red-black means R = 0 and no overweighted edge", as the report gives them
-pub record Balanced (S : State) : Type 0 where
-  pub no-conflict : (report (S .top)) .redConflicts ≡ 0
-  pub no-overweight : (report (S .top)) .overweightEdges ≡ 0
+pub record BalancedState (S : State) : Type 0 where
+  pub no-conflict : (report (S .top)) .conflicts ≡ 0
+  pub no-overweight : (report (S .top)) .overweighted ≡ 0
 
 bound-is : (S : State) (t : Tree) → S .top ≡ full t → boundOf S ≡ bound t
 unfolding report
 bound-is S t e = rw e
 
-balanced-is : (S : State) (t : Tree) → S .top ≡ full t → Balanced S ↔ RedBlack t
+balanced-is : (S : State) (t : Tree) → S .top ≡ full t → BalancedState S ↔ RedBlack t
 unfolding report
 balanced-is S t e = (
   λ b. record { no-conflict = rw e at (b .no-conflict); no-overweight = rw e at (b .no-overweight) },
   λ r. record { no-conflict = rw e (r .no-conflict); no-overweight = rw e (r .no-overweight) },
 )
 
-balanced-empty : (S : State) → S .top ≡ empty → Balanced S
+balanced-empty : (S : State) → S .top ≡ empty → BalancedState S
 unfolding report
 balanced-empty S e = record { no-conflict = rw e; no-overweight = rw e }
 
@@ -57,7 +58,7 @@ module _ (S : State) (t : Tree) (h : Sound S) (e : S .top ≡ full t) where
   sound-held = record {
     proper = sound-proper S t e h;
     low = tree-good S t h e .low;
-    inside = λ s n. let i = tree-slot S t h e s n in (i .numbered, i .within);
+    inside = λ s n. let i = tree-slot S t h e s n in record { from-one = i .numbered; to-last = i .within };
   }
 
   pub sound-small : size t ≤ widest
@@ -68,7 +69,7 @@ pub accepted-falls : (s n m : ℕ) (S : State) → Sound S → (step s n S) .ans
 unfolding report
 accepted-falls s n m S h = go (stepping s n S)
   where
-    go : {o : Outcome} → Stepping s n S o → o .answer ≡ Done m → boundOf (o .after) < boundOf S
+    go : {o : Outcome} → StepCase s n S o → o .answer ≡ Done m → boundOf (o .after) < boundOf S
     go (refused c) a = let z : _≡_ {A = ℕ} 0 1 = cc in absurd (omega arith)
     go (taken {t} {k} e i g b) a = rw e (bound-falls ((proper-made s k t (sound-proper S t e h) b) .step))
 
@@ -85,10 +86,10 @@ accepted-bounded (taken-first s n {a} {S} d rest) h = omega (arith, accepted-fal
 pub data SomeAccepted (S : State) : Type 0 where
   some-accepted-is : (s : ℕ) (k : Kind) → (step s (kindNumber k) S) .answer ≡ Done (kindNumber k) → SomeAccepted S
 
-pub some-accepted : (S : State) → Sound S → Balanced S ⊎ SomeAccepted S
+pub some-accepted : (S : State) → Sound S → BalancedState S ⊎ SomeAccepted S
 some-accepted S h = go (S .top) refl
   where
-    tree : (t : Tree) → S .top ≡ full t → RedBlack t ⊎ Accepts t → Balanced S ⊎ SomeAccepted S
+    tree : (t : Tree) → S .top ≡ full t → RedBlack t ⊎ Accepts t → BalancedState S ⊎ SomeAccepted S
     tree t e (inl r) = inl (balanced-is S t e .1 r)
     tree t e (inr (accepts {k} {s} g f)) =
         let n = kindNumber k in
@@ -96,31 +97,23 @@ some-accepted S h = go (S .top) refl
         let a : Accepted s n n t = record { kind = k; is-named = named-known k; holds = c; below-limit = f; number = refl } in
         inr (some-accepted-is s k (accepted-iff s n S h t e n .1 a))
 
-    go : (T : Top) → S .top ≡ T → Balanced S ⊎ SomeAccepted S
+    go : (T : Top) → S .top ≡ T → BalancedState S ⊎ SomeAccepted S
     go empty e = inl (balanced-empty S e)
     go (full t) e = let i = sound-held S t h e in tree t e (step-until-red-black t (i .proper .chromatic) (i .low) (sound-small S t h e))
 
 -- .. and once it is, none.
-pub none-accepted : (S : State) → Sound S → Balanced S → (s n m : ℕ) → (step s n S) .answer ≡ Done m → ⊥
+pub none-accepted : (S : State) → Sound S → BalancedState S → (s n m : ℕ) → (step s n S) .answer ≡ Done m → ⊥
 none-accepted S h b s n m = go (stepping s n S)
   where
-    go : {o : Outcome} → Stepping s n S o → o .answer ≡ Done m → ⊥
+    go : {o : Outcome} → StepCase s n S o → o .answer ≡ Done m → ⊥
     go (refused c) a = let z : _≡_ {A = ℕ} 0 1 = cc in absurd (omega arith)
     go (taken {t} {k} e i g d) a = none-when-red-black (balanced-is S t e .0 b) ((proper-made s k t (sound-proper S t e h) d) .step)
 
--- Settle. Its number of steps ..
-pub settle-bounded : (S : State) (budget : ℕ) → Sound S → numberOf ((settle budget S) .answer) ≤ boundOf S
-settle-bounded S b h = go (S .top) refl
-  where
-    go : (T : Top) → S .top ≡ T → numberOf ((settle b S) .answer) ≤ boundOf S
-    go empty e = rw (settle-empty S e b) (omega arith)
-    go (full t) e = omega (arith, bound-is S t e, settle-number S t e b, trees-bounded (S .slots) b t (sound-proper S t e h))
-
--- .. its code ..
-pub settle-code-0 : (S : State) (budget : ℕ) → Sound S → (codeOf ((settle budget S) .answer) ≡ 0) ↔ Balanced ((settle budget S) .after)
+-- Settle. Its code ..
+pub settle-code-0 : (S : State) (budget : ℕ) → Sound S → (codeOf ((settle budget S) .answer) ≡ 0) ↔ BalancedState ((settle budget S) .after)
 settle-code-0 S b h = go (S .top) refl
   where
-    go : (T : Top) → S .top ≡ T → (codeOf ((settle b S) .answer) ≡ 0) ↔ Balanced ((settle b S) .after)
+    go : (T : Top) → S .top ≡ T → (codeOf ((settle b S) .answer) ≡ 0) ↔ BalancedState ((settle b S) .after)
     go empty e = rw (settle-empty S e b) (λ z. balanced-empty S e, λ z. refl)
     go (full t) e =
         let u = lastAfter (S .slots) b t in
@@ -130,10 +123,10 @@ settle-code-0 S b h = go (S .top) refl
         (λ z. g .1 (f .0 (c .0 z)), λ d. c .1 (f .1 (g .0 d)))
 
 -- .. and that the bound is budget enough.
-pub settle-enough : (S : State) (budget : ℕ) → Sound S → boundOf S ≤ budget → Balanced ((settle budget S) .after)
+pub settle-enough : (S : State) (budget : ℕ) → Sound S → boundOf S ≤ budget → BalancedState ((settle budget S) .after)
 settle-enough S b h enough = go (S .top) refl
   where
-    go : (T : Top) → S .top ≡ T → Balanced ((settle b S) .after)
+    go : (T : Top) → S .top ≡ T → BalancedState ((settle b S) .after)
     go empty e = rw (settle-empty S e b) (balanced-empty S e)
     go (full t) e =
         let r = settles-red-black (S .slots) b t (few-slots S t h e) (sound-held S t h e) (omega (arith, bound-is S t e)) in

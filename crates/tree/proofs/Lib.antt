@@ -1,6 +1,8 @@
+pub mod Tables
 pub mod KindNumbers
 pub mod Tests
 pub mod Counts
+pub mod Totals
 pub mod Levels
 pub mod SoundStates
 pub mod Relation
@@ -25,3 +27,5 @@ pub mod Settled
 pub mod Demand3
 pub mod Deciding
 pub mod Decides
+pub mod Moves
+pub mod SettleAnswers

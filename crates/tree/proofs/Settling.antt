@@ -15,44 +15,33 @@ use native.Mathlib.Decide.{decLe}
 use native.Mathlib.Omega.{arith}
 use Prim.Native.Nat.{ℕ, zero, suc, _+_, _≤_, _<_}
 use Rattle.tree.specs.declared.Kind.{Kind}
-use Rattle.tree.specs.declared.Kind.the-variants.{Blacken, SingleLeft, SingleRight, DoubleLeft, DoubleRight, Lighten, LightenLeft, LightenRight}
 use Rattle.tree.specs.declared.Answer.the-variants.{Done}
 use Rattle.tree.specs.Codes.{kinds, kindNumber, codeOf, numberOf}
-use Rattle.tree.specs.Tree.{Tree, slotOf, size, count, inorder, keys, Chromatic}
+use Rattle.tree.specs.Tree.{Tree, size, count, inorder, keys, Chromatic}
 use Rattle.tree.specs.Kinds.{stepped}
 use Rattle.tree.specs.State.{State, state, Top, empty, full, Good, Sound, gives}
 use Rattle.tree.specs.Settle.{allowed, lowestKind, lowestStep, nextTree, treesAfter, lastOf, settled, settle}
-use Rattle.tree.proofs.KindNumbers.{named-known}
+use Rattle.tree.proofs.Tables.{Numbered}
+use Rattle.tree.proofs.KindNumbers.{named-known, named-within, kinds-numbered}
 use Rattle.tree.proofs.Steps.{Made, made}
-use Rattle.tree.proofs.StepShape.{step-size, step-slots, step-root}
+use Rattle.tree.proofs.StepShape.{step-size, step-slots}
 use Rattle.tree.proofs.StepKeys.{step-inorder, step-keys}
 use Rattle.tree.proofs.StepLevels.{step-chromatic}
 use Rattle.tree.proofs.StepState.{allowed-exactly, good-kept, tree-good, tree-once, sound-replaced}
 
 -- "there the lowest kind". The list of kinds goes up by their numbers.
-abbrev Numbered : ℕ → List Kind → Type 0
-Numbered n [] = Unit {0}
-Numbered n (k ∷ ks) = (kindNumber k ≡ n) × Numbered (suc n) ks
-
 same-kind : (j k : Kind) → kindNumber j ≡ kindNumber k → j ≡ k
 same-kind j k e = cc (named-known j, named-known k)
 
-from-one : (k : Kind) → (1 ≤ kindNumber k) × (kindNumber k < 1 + length kinds)
-from-one Blacken = omega arith
-from-one SingleLeft = omega arith
-from-one SingleRight = omega arith
-from-one DoubleLeft = omega arith
-from-one DoubleRight = omega arith
-from-one Lighten = omega arith
-from-one LightenLeft = omega arith
-from-one LightenRight = omega arith
+from-one : (k : Kind) → (1 ≤ kindNumber k) × (kindNumber k ≤ length kinds)
+from-one k = named-within (kindNumber k) k (named-known k)
 
 -- what is found among the kinds of numbers n to below m
 data KindFound (s : ℕ) (t : Tree) (n m : ℕ) : Option Kind → Type 0 where
   kind-found : {k : Kind} → allowed s k t ≡ true → ((j : Kind) → n ≤ kindNumber j → kindNumber j < kindNumber k → allowed s j t ≡ false) → KindFound s t n m (some k)
   no-kind : ((j : Kind) → n ≤ kindNumber j → kindNumber j < m → allowed s j t ≡ false) → KindFound s t n m none
 
-find-kind : (n : ℕ) (ks : List Kind) → Numbered n ks → (s : ℕ) (t : Tree) → KindFound s t n (n + length ks) (lowestKind ks s t)
+find-kind : (n : ℕ) (ks : List Kind) → Numbered kindNumber n ks → (s : ℕ) (t : Tree) → KindFound s t n (n + length ks) (lowestKind ks s t)
 unfolding lowestKind
 find-kind n [] h s t = no-kind (λ j a b. absurd (omega arith))
 find-kind n (k ∷ ks) h s t = go (allowed s k t) refl (lowestKind ks s t) (find-kind (suc n) ks (h .1) s t)
@@ -69,7 +58,7 @@ find-kind n (k ∷ ks) h s t = go (allowed s k t) refl (lowestKind ks s t) (find
     go false e none (no-kind f) = no-kind (λ j g i. also e j g (λ b. f j b (omega arith)) (decLe (suc n) (kindNumber j)))
 
 lowest-kind : (s : ℕ) (t : Tree) → KindFound s t 1 (1 + length kinds) (lowestKind kinds s t)
-lowest-kind s t = find-kind 1 kinds (refl, (refl, (refl, (refl, (refl, (refl, (refl, (refl, tt)))))))) s t
+lowest-kind s t = find-kind 1 kinds kinds-numbered s t
 
 -- "the lowest slot with an allowed kind, and there the lowest kind": s and k, among the slots from a to below e
 pub record Lowest (t : Tree) (a e s : ℕ) (k : Kind) : Type 0 where
@@ -106,11 +95,11 @@ find-step (suc n) a t = go (lowestKind kinds a t) (lowest-kind a t) (lowestStep 
       slot-from = omega (arith, h .slot-from);
       slot-below = omega (arith, h .slot-below);
       is-allowed = h .is-allowed;
-      no-lower-slot = λ x j i l. also x j (f j (from-one j .0) (from-one j .1)) i (λ m. h .no-lower-slot x j m l) (decLe (suc a) x);
+      no-lower-slot = λ x j i l. also x j (f j (from-one j .0) (omega (arith, from-one j .1))) i (λ m. h .no-lower-slot x j m l) (decLe (suc a) x);
       no-lower-kind = h .no-lower-kind;
     })
     go none (no-kind f) none (no-step h) =
-        no-step (λ x j i l. also x j (f j (from-one j .0) (from-one j .1)) i (λ m. h x j m (omega arith)) (decLe (suc a) x))
+        no-step (λ x j i l. also x j (f j (from-one j .0) (omega (arith, from-one j .1))) i (λ m. h x j m (omega arith)) (decLe (suc a) x))
 
 -- In a pool of c slots
 pub lowest-is-allowed : (c s : ℕ) (k : Kind) (t : Tree) → lowestStep c 1 t ≡ some (s, k) → Lowest t 1 (1 + c) s k
@@ -225,9 +214,6 @@ module _ (c budget : ℕ) (t : Tree) (h : Proper t) where
 
   pub settle-slots : (s : ℕ) → count s (lastAfter c budget t) ≡ count s t
   settle-slots s = settle-keeps (count s) (λ x k u m. step-slots (m .step) s) c budget t h
-
-  pub settle-root : slotOf (lastAfter c budget t) ≡ slotOf t
-  settle-root = settle-keeps slotOf (λ s k u m. step-root (m .step)) c budget t h
 
 pub settle-good : (c budget : ℕ) (t : Tree) → Proper t → Good t → Good (lastAfter c budget t)
 settle-good c b t h g = (kept-by-settle (λ u. Proper u × Good u) keep c b t (h, g)) .1

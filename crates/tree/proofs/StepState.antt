@@ -10,7 +10,6 @@ use mathlib.Core.Bool.{Bool, true, false, not, _||_, false≢true}
 use lib.Dec.{eqb, ltb}
 use borrow.Author.Tests.{eqb-true, eqb-false, eq-eqb, ne-eqb, ltb-false, le-ltb, not-true, not-false}
 use native.Mathlib.Omega.{arith}
-use native.Mathlib.Decide.{decLe}
 use Prim.Native.Nat.{ℕ, _≤_}
 use Rattle.tree.specs.declared.Refusal.{Refusal}
 use Rattle.tree.specs.declared.Refusal.the-variants.{NoInnerNode, NoSuchKind, ConditionFalse, LevelLimit}
@@ -21,71 +20,37 @@ use Rattle.tree.specs.declared.Answer.the-variants.{Done, Refused}
 use Rattle.tree.specs.Codes.{kindNumber, named}
 use Rattle.tree.specs.Tree.{Tree, isLeaf, count, countIn}
 use Rattle.tree.specs.Kinds.{conditionAt, stepped, atLimit}
-use Rattle.tree.specs.State.{Top, empty, full, State, state, countTop, keysOf, keyEnd, Good, GoodTop, Sound, Outcome, gives, refuses, leafAt, noInner, stepKind, stepNamed, step}
+use Rattle.tree.specs.State.{Top, empty, full, State, state, keysOf, keyEnd, Good, Sound, Outcome, gives, refuses, leafAt, noInner, stepKind, stepNamed, step}
 use Rattle.tree.specs.Settle.{allowed}
+use Rattle.tree.proofs.Tests.{two-true}
 use Rattle.tree.proofs.KindNumbers.{named-number}
-use Rattle.tree.proofs.Steps.{two-true, innerAt, holdsAt-present, holdsAt-not, step-inner, made}
+use Rattle.tree.proofs.Steps.{innerIn, holdsAt-present, holdsAt-not, step-inner, made}
 use Rattle.tree.proofs.StepShape.{step-slots}
 use Rattle.tree.proofs.StepKeys.{step-keys, step-ordered}
-use Rattle.tree.proofs.SoundStates.{sound-moved}
+pub use Rattle.tree.proofs.SoundStates.{InTree, tree-count, tree-slot, tree-once, tree-good, sound-replaced}
 use Rattle.tree.proofs.StepLevels.{step-chromatic, step-low}
 
-pub all-false : (a b c d : Bool) → (a || b || c || d) ≡ false → (a ≡ false) × (b ≡ false) × (c ≡ false) × (d ≡ false)
-all-false true b c d e = absurd (false≢true (sym e))
-all-false false true c d e = absurd (false≢true (sym e))
-all-false false false true d e = absurd (false≢true (sym e))
-all-false false false false d e = (refl, refl, refl, e)
-
--- What a sound State says of a slot s that stands in its tree t
-pub record InTree (S : State) (t : Tree) (s : ℕ) : Type 0 where
-  pub numbered : 1 ≤ s
-  pub within : s ≤ S .slots
-  pub once : count s t ≡ 1
-  pub not-free : countIn s (S .free) ≡ 0
+pub four-false : (a b c d : Bool) → (a || b || c || d) ≡ false → (a ≡ false) × (b ≡ false) × (c ≡ false) × (d ≡ false)
+four-false true b c d e = absurd (false≢true (sym e))
+four-false false true c d e = absurd (false≢true (sym e))
+four-false false false true d e = absurd (false≢true (sym e))
+four-false false false false d e = (refl, refl, refl, e)
 
 -- A sound State and its tree
 module _ (S : State) (t : Tree) (h : Sound S) (e : S .top ≡ full t) where
-  pub tree-count : (s : ℕ) → countTop s (S .top) ≡ count s t
-  unfolding countTop
-  tree-count s = rw e
-
-  pub tree-slot : (s : ℕ) → 1 ≤ count s t → InTree S t s
-  tree-slot s n = go (decLe 1 s) (decLe s (S .slots))
-    where
-      go : Dec (1 ≤ s) → Dec (s ≤ S .slots) → InTree S t s
-      go (yes a) (yes b) = let o = h .once s a b in let c = tree-count s in record { numbered = a; within = b; once = omega arith; not-free = omega arith }
-      go (yes a) (no b) = absurd (omega (arith, tree-count s, h .none-above s (omega arith)))
-      go (no a) d = let z : s ≡ 0 = omega arith in absurd (omega (arith, rw z at n, tree-count 0, h .none-zero))
-
-  pub tree-once : (s : ℕ) → count s t ≤ 1
-  tree-once s = go (decLe 1 (count s t))
-    where
-      go : Dec (1 ≤ count s t) → count s t ≤ 1
-      go (yes n) = omega (arith, tree-slot s n .once)
-      go (no n) = omega arith
-
-  pub tree-good : Good t
-  unfolding GoodTop
-  tree-good = rw e at (h .good)
-
-  -- another tree of the same slots, and good too, in its place
-  pub sound-replaced : (u : Tree) → ((s : ℕ) → count s u ≡ count s t) → Good u → Sound (state (S .slots) (full u) (S .free))
-  unfolding countTop GoodTop
-  sound-replaced u same good = sound-moved h refl (λ s. omega (arith, same s, tree-count s)) good
-
   -- 8: "slot is 0, above C, free or a leaf", exactly where no inner node has it
-  pub no-inner-exactly : (s : ℕ) → (noInner s S t ≡ false) ↔ (innerAt s 1 t ≡ true)
+  pub no-inner-exactly : (s : ℕ) → (noInner s S t ≡ false) ↔ (innerIn s 1 t ≡ true)
   unfolding noInner leafAt
   no-inner-exactly s = (
     λ f.
-        let g = all-false (eqb s 0) (ltb (S .slots) s) (not (eqb (countIn s (S .free)) 0)) (leafAt s t) f in
+        let g = four-false (eqb s 0) (ltb (S .slots) s) (not (eqb (countIn s (S .free)) 0)) (leafAt s t) f in
         let a : s ≢ 0 = eqb-false s 0 (g .0) in
         let b = ltb-false (S .slots) s (g .1) in
         let c = eqb-true (countIn s (S .free)) 0 (not-false _ (g .2)) in
-        let d : count s t ≡ 1 = omega (arith, tree-count s, h .once s (omega arith) b) in
+        let d : count s t ≡ 1 = omega (arith, tree-count S t h e s, h .once s (omega arith) b) in
         holdsAt-not (λ w u. isLeaf u) s 1 t d ∙ ap not (g .3),
     λ i.
-        let d = tree-slot s (holdsAt-present (λ w u. not (isLeaf u)) s 1 t i) in
+        let d = tree-slot S t h e s (holdsAt-present (λ w u. not (isLeaf u)) s 1 t i) in
         let l = not-true (leafAt s t) (sym (holdsAt-not (λ w u. isLeaf u) s 1 t (d .once)) ∙ i) in
         rw (ne-eqb s 0 (λ z. omega arith), le-ltb (S .slots) s (d .within), eq-eqb (countIn s (S .free)) 0 (d .not-free), l),
   )
@@ -125,27 +90,27 @@ pub record Accepted (s n m : ℕ) (t : Tree) : Type 0 where
   pub number : m ≡ n
 
 -- Why a step is refused: "Codes 5 to 11 [..]; lowest code first."
-pub data Cause (s n : ℕ) (S : State) : Refusal → Type 0 where
-  in-empty : S .top ≡ empty → Cause s n S NoInnerNode
-  no-inner : {t : Tree} → S .top ≡ full t → noInner s S t ≡ true → Cause s n S NoInnerNode
-  no-kind : {t : Tree} → S .top ≡ full t → noInner s S t ≡ false → named n ≡ Unknown → Cause s n S NoSuchKind
+pub data StepCause (s n : ℕ) (S : State) : Refusal → Type 0 where
+  in-empty : S .top ≡ empty → StepCause s n S NoInnerNode
+  no-inner : {t : Tree} → S .top ≡ full t → noInner s S t ≡ true → StepCause s n S NoInnerNode
+  no-kind : {t : Tree} → S .top ≡ full t → noInner s S t ≡ false → named n ≡ Unknown → StepCause s n S NoSuchKind
   condition-false : {t : Tree} {k : Kind} → S .top ≡ full t → noInner s S t ≡ false → named n ≡ Known k → conditionAt k s t ≡ false
-      → Cause s n S ConditionFalse
+      → StepCause s n S ConditionFalse
   at-limit : {t : Tree} {k : Kind} → S .top ≡ full t → noInner s S t ≡ false → named n ≡ Known k → conditionAt k s t ≡ true → atLimit k s t ≡ true
-      → Cause s n S LevelLimit
+      → StepCause s n S LevelLimit
 
 -- The command, case by case
-pub data Stepping (s n : ℕ) (S : State) : Outcome → Type 0 where
-  refused : {f : Refusal} → Cause s n S f → Stepping s n S (refuses f S)
+pub data StepCase (s n : ℕ) (S : State) : Outcome → Type 0 where
+  refused : {f : Refusal} → StepCause s n S f → StepCase s n S (refuses f S)
   taken : {t : Tree} {k : Kind} → S .top ≡ full t → noInner s S t ≡ false → named n ≡ Known k → allowed s k t ≡ true
-      → Stepping s n S (gives (Done (kindNumber k)) (state (S .slots) (full (stepped k s t)) (S .free)))
+      → StepCase s n S (gives (Done (kindNumber k)) (state (S .slots) (full (stepped k s t)) (S .free)))
 
 module _ (s n : ℕ) (S : State) where
-  pub stepping-kind : (t : Tree) (k : Kind) → S .top ≡ full t → noInner s S t ≡ false → named n ≡ Known k → Stepping s n S (stepKind s k S t)
+  pub stepping-kind : (t : Tree) (k : Kind) → S .top ≡ full t → noInner s S t ≡ false → named n ≡ Known k → StepCase s n S (stepKind s k S t)
   unfolding stepKind
   stepping-kind t k e f g = go (conditionAt k s t) refl (atLimit k s t) refl
     where
-      go : (b : Bool) → conditionAt k s t ≡ b → (c : Bool) → atLimit k s t ≡ c → Stepping s n S (elim b [
+      go : (b : Bool) → conditionAt k s t ≡ b → (c : Bool) → atLimit k s t ≡ c → StepCase s n S (elim b [
         | true ↦ elim c [ true ↦ refuses LevelLimit S | false ↦ gives (Done (kindNumber k)) (state (S .slots) (full (stepped k s t)) (S .free)) ]
         | false ↦ refuses ConditionFalse S
       ])
@@ -153,21 +118,21 @@ module _ (s n : ℕ) (S : State) where
       go true i false j = taken e f g (allowed-exactly s k t .1 (i, j))
       go false i c j = refused (condition-false e f g i)
 
-  pub stepping-named : (t : Tree) → S .top ≡ full t → noInner s S t ≡ false → (a : Named) → named n ≡ a → Stepping s n S (stepNamed s a S t)
+  pub stepping-named : (t : Tree) → S .top ≡ full t → noInner s S t ≡ false → (a : Named) → named n ≡ a → StepCase s n S (stepNamed s a S t)
   unfolding stepNamed
   stepping-named t e f Unknown g = refused (no-kind e f g)
   stepping-named t e f (Known k) g = stepping-kind t k e f g
 
-  pub stepping : Stepping s n S (step s n S)
+  pub stepping : StepCase s n S (step s n S)
   unfolding step
   stepping = go (S .top) refl
     where
       inner : (t : Tree) → S .top ≡ full t → (b : Bool) → noInner s S t ≡ b
-          → Stepping s n S (elim b [ true ↦ refuses NoInnerNode S | false ↦ stepNamed s (named n) S t ])
+          → StepCase s n S (elim b [ true ↦ refuses NoInnerNode S | false ↦ stepNamed s (named n) S t ])
       inner t e true f = refused (no-inner e f)
       inner t e false f = stepping-named t e f (named n) refl
 
-      go : (T : Top) → S .top ≡ T → Stepping s n S (elim T [
+      go : (T : Top) → S .top ≡ T → StepCase s n S (elim T [
         | empty ↦ refuses NoInnerNode S
         | full t ↦ elim (noInner s S t) [ true ↦ refuses NoInnerNode S | false ↦ stepNamed s (named n) S t ]
       ])
@@ -175,7 +140,7 @@ module _ (s n : ℕ) (S : State) where
       go (full t) e = inner t e (noInner s S t) refl
 
   -- The other way round: each cause gives its refusal, and with none of them the step is taken.
-  pub step-caused : {f : Refusal} → Cause s n S f → (step s n S) .answer ≡ Refused f
+  pub step-caused : {f : Refusal} → StepCause s n S f → (step s n S) .answer ≡ Refused f
   unfolding step stepNamed stepKind
   step-caused (in-empty e) = rw (e, step)
   step-caused (no-inner e f) = rw (e, step, f)
@@ -189,10 +154,10 @@ module _ (s n : ℕ) (S : State) where
   step-taken t k e f g a = let i = allowed-exactly s k t .0 a in rw (e, step, f, g, i .0, stepKind, i .1)
 
   -- Each code is given exactly when its cause is there.
-  pub refused-iff : (f : Refusal) → ((step s n S) .answer ≡ Refused f) ↔ Cause s n S f
+  pub refused-iff : (f : Refusal) → ((step s n S) .answer ≡ Refused f) ↔ StepCause s n S f
   refused-iff f = (go stepping, λ c. step-caused c)
     where
-      go : {o : Outcome} → Stepping s n S o → o .answer ≡ Refused f → Cause s n S f
+      go : {o : Outcome} → StepCase s n S o → o .answer ≡ Refused f → StepCause s n S f
       go (refused {f = g} c) a = let d : g ≡ f = cc in rw d at c
       go (taken e i g b) a = let z : _≡_ {A = ℕ} 0 1 = cc in absurd (omega arith)
 
@@ -200,7 +165,7 @@ module _ (s n : ℕ) (S : State) where
   pub step-refused : (f : Refusal) → (step s n S) .answer ≡ Refused f → (step s n S) .after ≡ S
   step-refused f = go stepping
     where
-      go : {o : Outcome} → Stepping s n S o → o .answer ≡ Refused f → o .after ≡ S
+      go : {o : Outcome} → StepCase s n S o → o .answer ≡ Refused f → o .after ≡ S
       go (refused c) a = refl
       go (taken e i g b) a = cc
 
@@ -209,7 +174,7 @@ module _ (s n : ℕ) (S : State) where
     pub step-sound-state : Sound ((step s n S) .after)
     step-sound-state = go stepping
       where
-        go : {o : Outcome} → Stepping s n S o → Sound (o .after)
+        go : {o : Outcome} → StepCase s n S o → Sound (o .after)
         go (refused c) = h
         go (taken {t} {k} e i g a) = sound-kept S t h e s k a
 
@@ -217,7 +182,7 @@ module _ (s n : ℕ) (S : State) where
     unfolding keysOf
     step-keeps-keys = go stepping
       where
-        go : {o : Outcome} → Stepping s n S o → keysOf (o .after .top) ≡ keysOf (S .top)
+        go : {o : Outcome} → StepCase s n S o → keysOf (o .after .top) ≡ keysOf (S .top)
         go (refused c) = refl
         go (taken {t} {k} e i g a) =
             rw e (step-keys (made k s t (tree-good S t h e .chromatic) (tree-once S t h e s) (allowed-exactly s k t .0 a .0) .step))
@@ -236,7 +201,7 @@ module _ (s n : ℕ) (S : State) where
     pub accepted-iff : (t : Tree) → S .top ≡ full t → (m : ℕ) → ((step s n S) .answer ≡ Done m) ↔ Accepted s n m t
     accepted-iff t e m = (go stepping, λ a. ap (λ (o : Outcome). o .answer) (accepted-outcome t e m a))
       where
-        go : {o : Outcome} → Stepping s n S o → o .answer ≡ Done m → Accepted s n m t
+        go : {o : Outcome} → StepCase s n S o → o .answer ≡ Done m → Accepted s n m t
         go (refused c) b = let z : _≡_ {A = ℕ} 0 1 = cc in absurd (omega arith)
         go (taken {t = v} {k} d i g a) b =
             let same : v ≡ t = cc in

@@ -1,11 +1,11 @@
 -- The commands search, insert and delete on a State, and prepare. For each: it keeps the State sound (`…-sound`); it answers by
 -- the cases of document 01's table, with what then holds of the keys (`…-says`), each code exactly when its cause holds
--- (`…-codes`); refused, it changes nothing (`…-kept`); it takes and frees slots at the head of the free chain (`…-chain`).
+-- (`…-codes`); refused, it changes nothing (`…-kept`). What an insert and a delete do is said case by case, with the slots that they
+-- take and free at the head of the free chain (`inserting`, `deleting`).
 -- Why: a search finds a key exactly when it occurs (Search.antt), so each command branches on whether the key is in the set.
 -- What an insert takes from the chain the tree gains, and what a delete frees it loses: over both together no slot's count
 -- changes (`sound-moved`). Assumes nothing.
 use mathlib.Core.Path.{_≡_, refl, sym}
-use mathlib.Core.Bool.{false, false≢true}
 use mathlib.Core.Logic.{_↔_, _≢_}
 use mathlib.Core.List.{List, [], _∷_}
 use lib.ListN.{length}
@@ -16,32 +16,39 @@ use native.Mathlib.Omega.{arith}
 use Rattle.tree.specs.declared.Refusal.the-variants.{KeyPresent, KeyAbsent, NoRoom}
 use Rattle.tree.specs.declared.Answer.the-variants.{Done}
 use Rattle.tree.specs.Codes.{mostSlots, code, codeOf}
-use Rattle.tree.specs.Tree.{Tree, leaf, node, isLeaf, leaves, one, count, countIn, Ordered, level, Chromatic}
-use Rattle.tree.specs.Updates.{reach, reachedKey, occurs, insertAt, newSlot, Cut, deleteAt}
-use Rattle.tree.specs.State.{Top, empty, full, State, state, keysOf, countTop, keyEnd, Good, GoodTop, Sound, upwards, prepared, Outcome, gives, refuses, search, insertFirst, insertMore, insert, deleted, delete}
+use Rattle.tree.specs.Tree.{Tree, leaf, node, isLeaf, leaves, one, count, countIn, keys, Ordered, level, Chromatic}
+use Rattle.tree.specs.Updates.{reach, reachedSlot, reachedKey, insertAt, newSlot, Cut, deleteAt}
+use Rattle.tree.specs.State.{Top, empty, full, State, state, keysOf, isIn, countTop, keyEnd, Good, GoodTop, Sound, upwards, prepared, Outcome, gives, refuses, search, slotsNeeded, insertFirst, insertMore, insert, deleted, delete}
 use Rattle.tree.proofs.Tests.{same-or-not, one-same, one-other}
-use Rattle.tree.proofs.Order.{occurs-once, leaves-keys}
+use Rattle.tree.proofs.Order.{occurs, occurs-keys, leaves-keys}
 use Rattle.tree.proofs.Levels.{chromatic-root}
-use Rattle.tree.proofs.SoundStates.{sound-moved}
+use Rattle.tree.proofs.SoundStates.{sound-moved, tree-good}
 use Rattle.tree.proofs.Search.{LeafIn, this, found-or-not, search-leaf, search-misses}
 use Rattle.tree.proofs.Insert.{Ins, insertAt-is, insert-keys, insert-slots, insert-ordered, insert-levels, insert-low, insert-leaf}
 use Rattle.tree.proofs.Delete.{Del, deleteAt-is, delete-keys, delete-slots, delete-ordered, delete-levels, delete-low}
 
--- how often key x is in the set: once, or not at all
-unfoldable pub occursTop : ℕ → Top → ℕ
-occursTop x empty = 0
-occursTop x (full t) = occurs x t
+-- The key x in a sound State: there is no tree, or the search for x ends at x, or at another key.
+pub isIn-tree : (x : ℕ) (S : State) (t : Tree) → S .top ≡ full t → isIn x S ≡ occurs x t
+unfolding keysOf
+isIn-tree x S t e = rw e (sym (occurs-keys x t))
 
-abbrev pub isIn : ℕ → State → ℕ
-isIn x S = occursTop x (S .top)
+isIn-empty : (x : ℕ) (S : State) → S .top ≡ empty → isIn x S ≡ 0
+unfolding keysOf countIn
+isIn-empty x S e = rw e
+
+pub sought : {A : Type 0} (x : ℕ) (S : State) → Sound S → (S .top ≡ empty → isIn x S ≡ 0 → A)
+    → ((t : Tree) → S .top ≡ full t → reachedKey x t ≡ x → isIn x S ≡ 1 → A)
+    → ((t : Tree) → S .top ≡ full t → reachedKey x t ≢ x → isIn x S ≡ 0 → A) → A
+sought {A} x S g none found other = go (S .top) refl
+  where
+    go : (T : Top) → S .top ≡ T → A
+    go empty e = none e (isIn-empty x S e)
+    go (full t) e = found-or-not x 0 keyEnd t (tree-good S t g e .ordered)
+        (λ f i. found t e f (omega (arith, isIn-tree x S t e)))
+        (λ n i. other t e n (omega (arith, isIn-tree x S t e)))
 
 pub isIn-once : (x : ℕ) (S : State) → Sound S → isIn x S ≤ 1
-unfolding GoodTop occursTop
-isIn-once x S g = go (S .top) (g .good)
-  where
-    go : (t : Top) → GoodTop t → occursTop x t ≤ 1
-    go empty g = omega arith
-    go (full t) g = occurs-once x 0 keyEnd t (g .ordered)
+isIn-once x S g = sought x S g (λ e i. omega arith) (λ t e f i. omega arith) (λ t e n i. omega arith)
 
 -- Prepare
 
@@ -69,10 +76,6 @@ prepared-sound c h i = record {
   good = tt;
 }
 
-pub prepared-keys : (c : ℕ) → keysOf ((prepared c) .top) ≡ []
-unfolding prepared keysOf
-prepared-keys c = refl
-
 -- Search
 
 -- What a search answers, and when. Either way it leaves the State as it was.
@@ -80,15 +83,12 @@ pub data SearchSays (x : ℕ) (S : State) : Outcome → Type 0 where
   found : {s : ℕ} {t : Tree} → isIn x S ≡ 1 → S .top ≡ full t → LeafIn s x t → SearchSays x S (gives (Done s) S)
   missing : isIn x S ≡ 0 → SearchSays x S (refuses KeyAbsent S)
 
-search-says-top : (x c : ℕ) (t : Top) (fs : List ℕ) → GoodTop t → SearchSays x (state c t fs) (search x (state c t fs))
-unfolding search occursTop GoodTop
-search-says-top x c empty fs g = missing refl
-search-says-top x c (full t) fs g = found-or-not x 0 keyEnd t (g .ordered)
-    (λ e i. rw (eq-eqb _ _ e, search) (found i refl (rw e at (search-leaf x t))))
-    (λ n i. rw (ne-eqb _ _ n, search) (missing i))
-
 pub search-says : (x : ℕ) (S : State) → Sound S → SearchSays x S (search x S)
-search-says x S g = search-says-top x (S .slots) (S .top) (S .free) (g .good)
+unfolding search
+search-says x S g = sought x S g
+    (λ e i. let d : search x S ≡ refuses KeyAbsent S = cc e in rw d (missing i))
+    (λ t e f i. let d : search x S ≡ gives (Done (reachedSlot x t)) S = cc (e, eq-eqb _ _ f) in rw d (found i e (rw f at (search-leaf x t))))
+    (λ t e n i. let d : search x S ≡ refuses KeyAbsent S = cc (e, ne-eqb _ _ n) in rw d (missing i))
 
 -- The same as codes: document 01's column "Given exactly when", for search and delete.
 pub record KeyCodes (x : ℕ) (S : State) (given : ℕ) : Type 0 where
@@ -114,10 +114,33 @@ search-sound x S g = rw (search-kept x S g) g
 
 -- Insert
 
--- 7: "fewer free slots than needed (1 if empty, else 2)"
-unfoldable pub slotsNeeded : Top → ℕ
-slotsNeeded empty = 1
-slotsNeeded (full t) = 2
+-- Case by case. "Taking a slot takes the chain's head."
+pub data Inserting (x : ℕ) (S : State) : Outcome → Type 0 where
+  is-there : {t : Tree} → S .top ≡ full t → reachedKey x t ≡ x → isIn x S ≡ 1 → Inserting x S (refuses KeyPresent S)
+  no-first : S .top ≡ empty → S .free ≡ [] → isIn x S ≡ 0 → Inserting x S (refuses NoRoom S)
+  no-two : {t : Tree} → S .top ≡ full t → length (S .free) < 2 → reachedKey x t ≢ x → isIn x S ≡ 0 → Inserting x S (refuses NoRoom S)
+  as-first : {a : ℕ} {fs : List ℕ} → S .top ≡ empty → S .free ≡ a ∷ fs → isIn x S ≡ 0
+      → Inserting x S (gives (Done a) (state (S .slots) (full (leaf a x)) fs))
+  beside : {t : Tree} {a b : ℕ} {fs : List ℕ} → S .top ≡ full t → S .free ≡ a ∷ (b ∷ fs) → reachedKey x t ≢ x → isIn x S ≡ 0
+      → Inserting x S (gives (Done (newSlot x (reachedKey x t) a b)) (state (S .slots) (full ((insertAt x a b 1 t) .1)) fs))
+
+pub inserting : (x : ℕ) (S : State) → Sound S → Inserting x S (insert x S)
+unfolding insert insertFirst insertMore
+inserting x S g = sought x S g
+    (λ e i. first (S .free) refl e i)
+    (λ t e f i. let d : insert x S ≡ refuses KeyPresent S = cc (e, eq-eqb _ _ f) in rw d (is-there e f i))
+    (λ t e n i. more t (S .free) refl e n i)
+  where
+    first : (fs : List ℕ) → S .free ≡ fs → S .top ≡ empty → isIn x S ≡ 0 → Inserting x S (insert x S)
+    first [] f e i = let d : insert x S ≡ refuses NoRoom S = cc (e, f) in rw d (no-first e f i)
+    first (a ∷ fs) f e i = let d : insert x S ≡ gives (Done a) (state (S .slots) (full (leaf a x)) fs) = cc (e, f) in rw d (as-first e f i)
+
+    more : (t : Tree) (fs : List ℕ) → S .free ≡ fs → S .top ≡ full t → reachedKey x t ≢ x → isIn x S ≡ 0 → Inserting x S (insert x S)
+    more t [] f e n i = let d : insert x S ≡ refuses NoRoom S = cc (e, f, ne-eqb _ _ n) in rw d (no-two e (rw f (omega arith)) n i)
+    more t (a ∷ []) f e n i = let d : insert x S ≡ refuses NoRoom S = cc (e, f, ne-eqb _ _ n) in rw d (no-two e (rw f (omega arith)) n i)
+    more t (a ∷ (b ∷ fs)) f e n i =
+        let d : insert x S ≡ gives (Done (newSlot x (reachedKey x t) a b)) (state (S .slots) (full ((insertAt x a b 1 t) .1)) fs) = cc (e, f, ne-eqb _ _ n) in
+        rw d (beside e f n i)
 
 -- What an insert answers, and when. Refused, it leaves the State as it was; else the key x is in the set, once more than
 -- before, and no other key is moved in or out; the answer is the slot of x.
@@ -125,25 +148,21 @@ pub data InsertSays (x : ℕ) (S : State) : Outcome → Type 0 where
   present : isIn x S ≡ 1 → InsertSays x S (refuses KeyPresent S)
   no-room : isIn x S ≡ 0 → length (S .free) < slotsNeeded (S .top) → InsertSays x S (refuses NoRoom S)
   added : {s : ℕ} {t : Tree} {fs : List ℕ} → isIn x S ≡ 0 → slotsNeeded (S .top) ≤ length (S .free)
-      → ((y : ℕ) → occurs y t ≡ isIn y S + one (eqb y x)) → LeafIn s x t → InsertSays x S (gives (Done s) (state (S .slots) (full t) fs))
-
-insert-more-says : (x c : ℕ) (t : Tree) (fs : List ℕ) → occurs x t ≡ 0 → InsertSays x (state c (full t) fs) (insertMore x c t fs)
-unfolding insertMore occursTop slotsNeeded
-insert-more-says x c t [] i = no-room i (omega arith)
-insert-more-says x c t (a ∷ []) i = no-room i (omega arith)
-insert-more-says x c t (a ∷ (b ∷ fs)) i =
-    let d = insertAt-is x a b 1 t in added i (omega arith) (λ y. insert-keys y d) (insert-leaf d)
-
-insert-says-top : (x c : ℕ) (t : Top) (fs : List ℕ) → GoodTop t → InsertSays x (state c t fs) (insert x (state c t fs))
-unfolding insert insertFirst occursTop occurs slotsNeeded GoodTop
-insert-says-top x c empty [] g = no-room refl (omega arith)
-insert-says-top x c empty (a ∷ fs) g = added {t = leaf a x} refl (omega arith) (λ y. omega arith) this
-insert-says-top x c (full t) fs g = found-or-not x 0 keyEnd t (g .ordered)
-    (λ e i. rw (eq-eqb _ _ e, insert) (present i))
-    (λ n i. rw (ne-eqb _ _ n, insert) (insert-more-says x c t fs i))
+      → ((y : ℕ) → isIn y (state (S .slots) (full t) fs) ≡ isIn y S + one (eqb y x)) → LeafIn s x t
+      → InsertSays x S (gives (Done s) (state (S .slots) (full t) fs))
 
 pub insert-says : (x : ℕ) (S : State) → Sound S → InsertSays x S (insert x S)
-insert-says x S g = insert-says-top x (S .slots) (S .top) (S .free) (g .good)
+unfolding slotsNeeded keysOf keys countIn
+insert-says x S g = go (inserting x S g)
+  where
+    go : {o : Outcome} → Inserting x S o → InsertSays x S o
+    go (is-there e f i) = present i
+    go (no-first e f i) = no-room i (rw (e, f) (omega arith))
+    go (no-two e f n i) = no-room i (rw e f)
+    go (as-first {a} {fs} e f i) = added {t = leaf a x} {fs = fs} i (rw (e, f) (omega arith)) (λ y. omega (arith, isIn-empty y S e)) this
+    go (beside {t} {a} {b} {fs} e f n i) =
+        let d = insertAt-is x a b 1 t in
+        added {t = (insertAt x a b 1 t) .1} {fs = fs} i (rw (e, f) (omega arith)) (λ y. omega (arith, insert-keys y d, isIn-tree y S t e, occurs-keys y ((insertAt x a b 1 t) .1))) (insert-leaf d)
 
 pub record InsertCodes (x : ℕ) (S : State) (given : ℕ) : Type 0 where
   pub done : (given ≡ 0) ↔ ((isIn x S ≡ 0) × (slotsNeeded (S .top) ≤ length (S .free)))
@@ -177,48 +196,63 @@ first-good : (a x : ℕ) → x < keyEnd → Good (leaf a x)
 unfolding Ordered Chromatic level
 first-good a x h = record { ordered = omega arith; chromatic = omega arith; low = omega arith }
 
-insert-more-sound : (x c : ℕ) (t : Tree) (fs : List ℕ) → x < keyEnd → occurs x t ≡ 0 → Sound (state c (full t) fs) → Sound ((insertMore x c t fs) .after)
-unfolding insertMore countTop countIn GoodTop
-insert-more-sound x c t [] h i g = g
-insert-more-sound x c t (a ∷ []) h i g = g
-insert-more-sound x c t (a ∷ (b ∷ fs)) h i g =
-    let d = insertAt-is x a b 1 t in sound-moved g refl (λ s. omega (arith, insert-slots s d)) (insert-good d h i (g .good))
-
-insert-sound-top : (x c : ℕ) (t : Top) (fs : List ℕ) → x < keyEnd → Sound (state c t fs) → Sound ((insert x (state c t fs)) .after)
-unfolding insert insertFirst countTop count countIn GoodTop
-insert-sound-top x c empty [] h g = g
-insert-sound-top x c empty (a ∷ fs) h g = sound-moved g refl (λ s. omega arith) (first-good a x h)
-insert-sound-top x c (full t) fs h g = found-or-not x 0 keyEnd t (g .good .ordered)
-    (λ e i. rw (eq-eqb _ _ e, insert) g)
-    (λ n i. rw (ne-eqb _ _ n, insert) (insert-more-sound x c t fs h i g))
-
 pub insert-sound : (x : ℕ) (S : State) → Sound S → x < keyEnd → Sound ((insert x S) .after)
-insert-sound x S g h = insert-sound-top x (S .slots) (S .top) (S .free) h g
+unfolding countTop count countIn GoodTop
+insert-sound x S g h = go (inserting x S g)
+  where
+    go : {o : Outcome} → Inserting x S o → Sound (o .after)
+    go (is-there e f i) = g
+    go (no-first e f i) = g
+    go (no-two e f n i) = g
+    go (as-first {a} e f i) = sound-moved g (λ s. rw (e, f) (omega arith)) (first-good a x h)
+    go (beside {t} {a} {b} e f n i) =
+        let d = insertAt-is x a b 1 t in
+        sound-moved g (λ s. rw (e, f) (omega (arith, insert-slots s d))) (insert-good d h (omega (arith, isIn-tree x S t e)) (tree-good S t g e))
 
 -- Delete
+
+-- Case by case. "A root leaf is freed." Else "the leaf's slot is freed first, then the sibling's", and "freeing puts a slot at the head".
+pub data Deleting (x : ℕ) (S : State) : Outcome → Type 0 where
+  from-none : S .top ≡ empty → isIn x S ≡ 0 → Deleting x S (refuses KeyAbsent S)
+  not-there : {t : Tree} → S .top ≡ full t → reachedKey x t ≢ x → isIn x S ≡ 0 → Deleting x S (refuses KeyAbsent S)
+  the-last : {s : ℕ} → S .top ≡ full (leaf s x) → isIn x S ≡ 1 → Deleting x S (gives (Done 0) (state (S .slots) empty (s ∷ S .free)))
+  one-of : {t : Tree} {c : Cut} → S .top ≡ full t → isIn x S ≡ 1 → Del x 1 t c
+      → Deleting x S (gives (Done (leaves (c .tree))) (state (S .slots) (full (c .tree)) (c .siblingSlot ∷ (c .leafSlot ∷ S .free))))
+
+pub deleting : (x : ℕ) (S : State) → Sound S → Deleting x S (delete x S)
+unfolding delete deleted reachedKey reach isLeaf
+deleting x S g = sought x S g
+    (λ e i. let d : delete x S ≡ refuses KeyAbsent S = cc e in rw d (from-none e i))
+    found
+    (λ t e n i. let d : delete x S ≡ refuses KeyAbsent S = cc (e, ne-eqb _ _ n) in rw d (not-there e n i))
+  where
+    found : (t : Tree) → S .top ≡ full t → reachedKey x t ≡ x → isIn x S ≡ 1 → Deleting x S (delete x S)
+    found (leaf s k) e f i =
+        let d : delete x S ≡ gives (Done 0) (state (S .slots) empty (s ∷ S .free)) = cc (e, eq-eqb _ _ f) in rw d (the-last (rw f at e) i)
+    found (node v k wl l wr r) e f i =
+        let t = node v k wl l wr r in
+        let c = deleteAt x 1 t in
+        let d : delete x S ≡ gives (Done (leaves (c .tree))) (state (S .slots) (full (c .tree)) (c .siblingSlot ∷ (c .leafSlot ∷ S .free))) = cc (e, eq-eqb _ _ f) in
+        rw d (one-of e i (deleteAt-is x 1 t refl f))
 
 -- What a delete answers, and when. Refused, it leaves the State as it was; else the key x is in the set no more, and no other
 -- key is moved in or out; the answer is the number of keys left.
 pub data DeleteSays (x : ℕ) (S : State) : Outcome → Type 0 where
   absent : isIn x S ≡ 0 → DeleteSays x S (refuses KeyAbsent S)
   removed : {n : ℕ} {t : Top} {fs : List ℕ} → isIn x S ≡ 1 → n ≡ length (keysOf t)
-      → ((y : ℕ) → isIn y S ≡ occursTop y t + one (eqb y x)) → DeleteSays x S (gives (Done n) (state (S .slots) t fs))
-
-deleted-says : (x c : ℕ) (t : Tree) (fs : List ℕ) → reachedKey x t ≡ x → occurs x t ≡ 1 → DeleteSays x (state c (full t) fs) (deleted x c t fs)
-unfolding deleted reachedKey reach occursTop occurs keysOf isLeaf
-deleted-says x c (leaf s k) fs e i = removed {t = empty} i refl (λ y. rw e (omega arith))
-deleted-says x c (node v k wl l wr r) fs e i =
-    let d = deleteAt-is x 1 (node v k wl l wr r) refl e in removed i (leaves-keys _) (λ y. delete-keys y d)
-
-delete-says-top : (x c : ℕ) (t : Top) (fs : List ℕ) → GoodTop t → DeleteSays x (state c t fs) (delete x (state c t fs))
-unfolding delete occursTop GoodTop
-delete-says-top x c empty fs g = absent refl
-delete-says-top x c (full t) fs g = found-or-not x 0 keyEnd t (g .ordered)
-    (λ e i. rw (eq-eqb _ _ e, delete) (deleted-says x c t fs e i))
-    (λ n i. rw (ne-eqb _ _ n, delete) (absent i))
+      → ((y : ℕ) → isIn y S ≡ isIn y (state (S .slots) t fs) + one (eqb y x)) → DeleteSays x S (gives (Done n) (state (S .slots) t fs))
 
 pub delete-says : (x : ℕ) (S : State) → Sound S → DeleteSays x S (delete x S)
-delete-says x S g = delete-says-top x (S .slots) (S .top) (S .free) (g .good)
+unfolding keysOf countIn occurs
+delete-says x S g = go (deleting x S g)
+  where
+    go : {o : Outcome} → Deleting x S o → DeleteSays x S o
+    go (from-none e i) = absent i
+    go (not-there e n i) = absent i
+    go (the-last {s} e i) = removed {t = empty} {fs = s ∷ S .free} i refl (λ y. omega (arith, isIn-tree y S (leaf s x) e))
+    go (one-of {t} {c} e i d) =
+        removed {t = full (c .tree)} {fs = c .siblingSlot ∷ (c .leafSlot ∷ S .free)} i (leaves-keys _)
+        (λ y. omega (arith, delete-keys y d, isIn-tree y S t e, occurs-keys y (c .tree)))
 
 pub delete-codes : (x : ℕ) (S : State) → Sound S → KeyCodes x S (codeOf ((delete x S) .answer))
 delete-codes x S g = go (delete-says x S g)
@@ -241,62 +275,25 @@ delete-good {c} d g = record {
   low = omega (arith, delete-low d (g .chromatic), g .low);
 }
 
-deleted-sound : (x c : ℕ) (t : Tree) (fs : List ℕ) → reachedKey x t ≡ x → Sound (state c (full t) fs) → Sound ((deleted x c t fs) .after)
-unfolding deleted reachedKey reach countTop count countIn GoodTop isLeaf
-deleted-sound x c (leaf s k) fs e g = sound-moved g refl (λ y. omega arith) tt
-deleted-sound x c (node v k wl l wr r) fs e g =
-    let d = deleteAt-is x 1 (node v k wl l wr r) refl e in sound-moved g refl (λ y. omega (arith, delete-slots y d)) (delete-good d (g .good))
-
-delete-sound-top : (x c : ℕ) (t : Top) (fs : List ℕ) → Sound (state c t fs) → Sound ((delete x (state c t fs)) .after)
-unfolding delete GoodTop
-delete-sound-top x c empty fs g = g
-delete-sound-top x c (full t) fs g = found-or-not x 0 keyEnd t (g .good .ordered)
-    (λ e i. rw (eq-eqb _ _ e, delete) (deleted-sound x c t fs e g))
-    (λ n i. rw (ne-eqb _ _ n, delete) g)
-
 pub delete-sound : (x : ℕ) (S : State) → Sound S → Sound ((delete x S) .after)
-delete-sound x S g = delete-sound-top x (S .slots) (S .top) (S .free) g
-
--- The free chain
-
--- "Taking a slot takes the chain's head."
-pub insert-chain-first : (x c a : ℕ) (fs : List ℕ) → insert x (state c empty (a ∷ fs)) ≡ gives (Done a) (state c (full (leaf a x)) fs)
-unfolding insert insertFirst
-insert-chain-first x c a fs = refl
-
-pub insert-chain : (x c a b : ℕ) (t : Tree) (fs : List ℕ) → occurs x t ≡ 0
-    → insert x (state c (full t) (a ∷ (b ∷ fs))) ≡ gives (Done (newSlot x (reachedKey x t) a b)) (state c (full ((insertAt x a b 1 t) .1)) fs)
-unfolding insert insertMore
-insert-chain x c a b t fs i = rw (ne-eqb (reachedKey x t) x (search-misses x t i), insert)
-
--- "The leaf's slot is freed first, then the sibling's", and "freeing puts a slot at the head".
-pub delete-chain-last : (x c s : ℕ) (fs : List ℕ) → delete x (state c (full (leaf s x)) fs) ≡ gives (Done 0) (state c empty (s ∷ fs))
-unfolding delete deleted reachedKey reach
-delete-chain-last x c s fs = rw (eq-eqb x x refl, delete)
-
-pub delete-chain : (x c : ℕ) (t : Tree) (fs : List ℕ) (d : Cut) → isLeaf t ≡ false → Good t → occurs x t ≡ 1 → deleteAt x 1 t ≡ d
-    → delete x (state c (full t) fs) ≡ gives (Done (leaves (d .tree))) (state c (full (d .tree)) (d .siblingSlot ∷ (d .leafSlot ∷ fs)))
-unfolding delete deleted isLeaf
-delete-chain x c (leaf s k) fs d n g i e = absurd (false≢true (sym n))
-delete-chain x c (node v k wl l wr r) fs d n g i e = rw (← e) (found-or-not x 0 keyEnd (node v k wl l wr r) (g .ordered)
-    (λ f _. rw (eq-eqb _ _ f, delete))
-    (λ f j. absurd (omega arith)))
-
-deleted-again : (x y c : ℕ) (t : Tree) (fs : List ℕ) → isIn y ((deleted x c t fs) .after) ≡ 0 → (insert y ((deleted x c t fs) .after)) .after .free ≡ fs
-unfolding deleted insert insertFirst occursTop
-deleted-again x y c (leaf s k) fs i = refl
-deleted-again x y c (node v k wl l wr r) fs i = rw (insert-chain y c _ _ _ fs i)
-
-delete-again-top : (x y c : ℕ) (t : Top) (fs : List ℕ) → GoodTop t → occursTop x t ≡ 1 → isIn y ((delete x (state c t fs)) .after) ≡ 0
-    → (insert y ((delete x (state c t fs)) .after)) .after .free ≡ fs
-unfolding delete occursTop GoodTop
-delete-again-top x y c empty fs g i j = absurd (omega arith)
-delete-again-top x y c (full t) fs g i j = found-or-not x 0 keyEnd t (g .ordered)
-    (λ e _. let d : delete x (state c (full t) fs) ≡ deleted x c t fs = rw (eq-eqb _ _ e, delete) in rw d (deleted-again x y c t fs (rw d at j)))
-    (λ n o. absurd (omega arith))
+unfolding countTop count countIn GoodTop
+delete-sound x S g = go (deleting x S g)
+  where
+    go : {o : Outcome} → Deleting x S o → Sound (o .after)
+    go (from-none e i) = g
+    go (not-there e n i) = g
+    go (the-last e i) = sound-moved g (λ s. rw e (omega arith)) tt
+    go (one-of {t} e i d) = sound-moved g (λ s. rw e (omega (arith, delete-slots s d))) (delete-good d (tree-good S t g e))
 
 -- "Freed slots are used again": an insert after a delete takes the slots that the delete freed, and leaves the chain as it was
 -- before both.
 pub freed-used-again : (x y : ℕ) (S : State) → Sound S → isIn x S ≡ 1 → isIn y ((delete x S) .after) ≡ 0
     → (insert y ((delete x S) .after)) .after .free ≡ S .free
-freed-used-again x y S g i j = delete-again-top x y (S .slots) (S .top) (S .free) (g .good) i j
+unfolding insert insertFirst insertMore keysOf
+freed-used-again x y S g i = go (deleting x S g)
+  where
+    go : {o : Outcome} → Deleting x S o → isIn y (o .after) ≡ 0 → (insert y (o .after)) .after .free ≡ S .free
+    go (from-none e n) j = absurd (omega arith)
+    go (not-there e f n) j = absurd (omega arith)
+    go (the-last e n) j = refl
+    go (one-of {c} e n d) j = rw (ne-eqb _ _ (search-misses y (c .tree) (omega (arith, occurs-keys y (c .tree)))), insert)

@@ -34,14 +34,15 @@ unfoldable pub treesAfter : ℕ → ℕ → Tree → List Tree
 treesAfter c zero t = []
 treesAfter c (suc budget) t = elim (nextTree c t) [ some u ↦ u ∷ treesAfter c budget u | none ↦ [] ]
 
--- the last tree of a list that begins with t
-unfoldable pub lastOf : Tree → List Tree → Tree
-lastOf t [] = t
-lastOf t (u ∷ us) = lastOf u us
+-- the last of a list that begins with x
+unfoldable pub lastOf : {A : Type 0} → A → List A → A
+lastOf x [] = x
+lastOf x (y ∷ ys) = lastOf y ys
 
--- 12: "budget spent and a step still allowed", with the steps taken, as without it. (Where none is left, the budget does not matter.)
-unfoldable pub settled : ℕ → Option Tree → Answer
-settled n (some u) = Spent n
+-- 12: "budget spent and a step still allowed", with the steps taken, as without it; given what the next step would make, if one is
+-- allowed. (Where none is left, the budget does not matter.)
+unfoldable pub settled : {A : Type 0} → ℕ → Option A → Answer
+settled n (some x) = Spent n
 settled n none = Done n
 
 unfoldable pub settle : ℕ → State → Outcome

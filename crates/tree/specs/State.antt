@@ -11,6 +11,7 @@ use Rattle.tree.specs.declared.Named.the-variants.{Known, Unknown}
 use Rattle.tree.specs.declared.Refusal.{Refusal}
 use Rattle.tree.specs.declared.Answer.{Answer}
 use Rattle.tree.specs.declared.Answer.the-variants.{Done, Refused}
+use Rattle.tree.specs.declared.Figures.{Figures}
 use Rattle.tree.specs.Codes.{mostSlots, mostLevel, kindNumber, named}
 use Rattle.tree.specs.Tree.{Tree, leaf, node, isLeaf, size, leaves, count, countIn, keys, Ordered, level, Chromatic}
 use Rattle.tree.specs.Kinds.{holdsAt, conditionAt, stepped, atLimit}
@@ -30,15 +31,26 @@ pub record State : Type 0 where
 abbrev pub state : ℕ → Top → List ℕ → State
 state c t fs = record { slots = c; top = t; free = fs }
 
--- N, "the slots in the tree"; the keys; how often slot s stands in the tree
+-- N, "the slots in the tree"
 unfoldable pub nodes : Top → ℕ
 nodes empty = 0
 nodes (full t) = size t
 
+-- "L is 0 for an empty tree or one leaf."
+unfoldable pub levelTop : Top → ℕ
+levelTop empty = 0
+levelTop (full t) = level t
+
+-- the keys
 unfoldable pub keysOf : Top → List ℕ
 keysOf empty = []
 keysOf (full t) = keys t
 
+-- how often key x is in the set: once, or not at all
+abbrev pub isIn : ℕ → State → ℕ
+isIn x S = countIn x (keysOf (S .top))
+
+-- how often slot s stands in the tree
 unfoldable pub countTop : ℕ → Top → ℕ
 countTop s empty = 0
 countTop s (full t) = count s t
@@ -93,34 +105,40 @@ search x S = elim (S .top) [
   | full t ↦ elim (eqb (reachedKey x t) x) [ true ↦ gives (Done (reachedSlot x t)) S | false ↦ refuses KeyAbsent S ]
 ]
 
--- Insert: 5 "key present", 7 "fewer free slots than needed (1 if empty, else 2)", or "the new key's slot".
--- "Taking a slot takes the chain's head."
-unfoldable pub insertFirst : ℕ → ℕ → List ℕ → Outcome
-insertFirst x c [] = refuses NoRoom (state c empty [])
-insertFirst x c (a ∷ fs) = gives (Done a) (state c (full (leaf a x)) fs)
+-- 7: "fewer free slots than needed (1 if empty, else 2)"
+unfoldable pub slotsNeeded : Top → ℕ
+slotsNeeded empty = 1
+slotsNeeded (full t) = 2
 
-unfoldable pub insertMore : ℕ → ℕ → Tree → List ℕ → Outcome
-insertMore x c t [] = refuses NoRoom (state c (full t) [])
-insertMore x c t (a ∷ []) = refuses NoRoom (state c (full t) (a ∷ []))
-insertMore x c t (a ∷ (b ∷ fs)) = gives (Done (newSlot x (reachedKey x t) a b)) (state c (full ((insertAt x a b 1 t) .1)) fs)
+-- Insert: 5 "key present", 7 as above, or "the new key's slot". "Taking a slot takes the chain's head." Into an empty tree, and into
+-- the tree t, with these free slots.
+unfoldable pub insertFirst : ℕ → State → List ℕ → Outcome
+insertFirst x S [] = refuses NoRoom S
+insertFirst x S (a ∷ fs) = gives (Done a) (state (S .slots) (full (leaf a x)) fs)
+
+unfoldable pub insertMore : ℕ → State → Tree → List ℕ → Outcome
+insertMore x S t [] = refuses NoRoom S
+insertMore x S t (a ∷ []) = refuses NoRoom S
+insertMore x S t (a ∷ (b ∷ fs)) = gives (Done (newSlot x (reachedKey x t) a b)) (state (S .slots) (full ((insertAt x a b 1 t) .1)) fs)
 
 unfoldable pub insert : ℕ → State → Outcome
 insert x S = elim (S .top) [
-  | empty ↦ insertFirst x (S .slots) (S .free)
-  | full t ↦ elim (eqb (reachedKey x t) x) [ true ↦ refuses KeyPresent S | false ↦ insertMore x (S .slots) t (S .free) ]
+  | empty ↦ insertFirst x S (S .free)
+  | full t ↦ elim (eqb (reachedKey x t) x) [ true ↦ refuses KeyPresent S | false ↦ insertMore x S t (S .free) ]
 ]
 
 -- Delete: 6 "key absent", or "keys left". "A root leaf is freed." "The leaf's slot is freed first, then the sibling's", and
 -- "freeing puts a slot at the head".
-unfoldable pub deleted : ℕ → ℕ → Tree → List ℕ → Outcome
-deleted x c (leaf s k) fs = gives (Done 0) (state c empty (s ∷ fs))
-deleted x c (node v k wl l wr r) fs =
-    let d = deleteAt x 1 (node v k wl l wr r) in gives (Done (leaves (d .tree))) (state c (full (d .tree)) (d .siblingSlot ∷ (d .leafSlot ∷ fs)))
+unfoldable pub deleted : ℕ → State → Tree → Outcome
+deleted x S (leaf s k) = gives (Done 0) (state (S .slots) empty (s ∷ S .free))
+deleted x S (node v k wl l wr r) =
+    let d = deleteAt x 1 (node v k wl l wr r) in
+    gives (Done (leaves (d .tree))) (state (S .slots) (full (d .tree)) (d .siblingSlot ∷ (d .leafSlot ∷ S .free)))
 
 unfoldable pub delete : ℕ → State → Outcome
 delete x S = elim (S .top) [
   | empty ↦ refuses KeyAbsent S
-  | full t ↦ elim (eqb (reachedKey x t) x) [ true ↦ deleted x (S .slots) t (S .free) | false ↦ refuses KeyAbsent S ]
+  | full t ↦ elim (eqb (reachedKey x t) x) [ true ↦ deleted x S t | false ↦ refuses KeyAbsent S ]
 ]
 
 -- Step. 8: "slot is 0, above C, free or a leaf"; 9: "kind not 1 to 8"; 10: "condition false"; 11: "kind 1 at the root with L = 255".
@@ -146,29 +164,23 @@ step s n S = elim (S .top) [
   | full t ↦ elim (noInner s S t) [ true ↦ refuses NoInnerNode S | false ↦ stepNamed s (named n) S t ]
 ]
 
--- The report's seven numbers: "N, L, overweighted edges, R, D, Q, and (3N+1)D + 2NR + Q".
-pub record Figures : Type 0 where
-  pub nodeCount : ℕ
-  pub weightedLength : ℕ
-  pub overweightEdges : ℕ
-  pub redConflicts : ℕ
-  pub overweightDistance : ℕ
-  pub redRedDistance : ℕ
-  pub stepBound : ℕ
+-- an empty tree's numbers, and "seven zeros when refused"
+abbrev pub zeros : Figures
+zeros = record { nodes = 0; level = 0; overweighted = 0; conflicts = 0; «over_distance» = 0; «red_distance» = 0; bound = 0 }
 
--- "L is 0 for an empty tree or one leaf."
+-- "The report gives seven numbers: N, L, overweighted edges [..], R, D, Q, and (3N+1)D + 2NR + Q."
 unfoldable pub report : Top → Figures
-report empty = record { nodeCount = 0; weightedLength = 0; overweightEdges = 0; redConflicts = 0; overweightDistance = 0; redRedDistance = 0; stepBound = 0 }
+report empty = zeros
 report (full t) = record {
-  nodeCount = size t;
-  weightedLength = level t;
-  overweightEdges = overEdges t;
-  redConflicts = conflicts t;
-  overweightDistance = overDistance (size t) t;
-  redRedDistance = redDistance (size t) t;
-  stepBound = bound t;
+  nodes = size t;
+  level = level t;
+  overweighted = overEdges t;
+  conflicts = conflicts t;
+  «over_distance» = overDistance (size t) t;
+  «red_distance» = redDistance (size t) t;
+  bound = bound t;
 }
 
--- "The exported report takes an index, 1 first, and returns that number, 0 for [..] any other index."
+-- the numbers in that order
 unfoldable pub figures : Figures → List ℕ
-figures f = f .nodeCount ∷ f .weightedLength ∷ f .overweightEdges ∷ f .redConflicts ∷ f .overweightDistance ∷ f .redRedDistance ∷ f .stepBound ∷ []
+figures f = f .nodes ∷ f .level ∷ f .overweighted ∷ f .conflicts ∷ f .«over_distance» ∷ f .«red_distance» ∷ f .bound ∷ []

@@ -1,36 +1,40 @@
--- Delete on words that show a sound State answers as document 01's delete does and leaves words that show its State
--- (`delete-shows`).
+-- Delete under a header, on words that show a sound State, answers as document 01's delete does and leaves a header and words that
+-- show its State (`delete-shows`); the entry of a pool leaves a pool that shows it (`delete-entry`).
 -- Why: the leaf, its parent and its sibling have three different slots, and no other slot of the tree or of the chain is written. The
 -- tree is the old one with one subtree replaced, the parent's by the sibling moved to the parent's slot (`Cutting`). The sum of the
 -- two weights does not wrap, for none is above 255; and a tree of k keys has 2k - 1 nodes. Assumes nothing.
 use mathlib.Core.Path.{_≡_, refl, ap, sym, _∙_}
 use mathlib.Core.Logic.{_≢_}
-use mathlib.Core.List.{List, _∷_}
+use mathlib.Core.List.{List, [], _∷_}
 use lib.Dec.{eqb}
-use lib.ListN.{length}
 use borrow.Author.Tests.{eq-eqb, ne-eqb, le-leb, lt-leb}
 use native.Mathlib.Omega.{arith}
-use Prim.Native.Nat.{ℕ, pred, _+_, _*_, _/_, _≤_, _<_}
+use Prim.Native.Nat.{ℕ, pred, _+_, _/_, _≤_, _<_}
 use Rattle.tree.specs.declared.Answer.the-variants.{Done}
 use Rattle.tree.specs.declared.Refusal.the-variants.{KeyAbsent}
 use Rattle.tree.specs.Codes.{mostLevel}
 use Rattle.tree.specs.Tree.{Tree, leaf, node, slotOf, isLeaf, size, leaves, one, count, countIn}
 use Rattle.tree.specs.Updates.{reach, reachedSlot, reachedKey, movedTo, Cut, cut, deleteAt}
-use Rattle.tree.specs.State.{State, state, Top, empty, full, nodes, countTop, GoodTop, Sound, gives, deleted, delete}
+use Rattle.tree.specs.State.{State, state, Top, empty, full, nodes, Good, GoodTop, Sound, gives, deleted, delete}
 use Rattle.tree.proofs.Tests.{same-or-not}
+use Rattle.tree.proofs.Order.{nodes-of}
 use Rattle.tree.proofs.Delete.{Del, cut-left, cut-right, in-left as del-left, in-right as del-right, deleteAt-is, delete-size, delete-leaves, delete-root}
+use Rattle.format.specs.declared.Header.{Header}
 use Rattle.format.specs.declared.Slot.{Slot}
-use Rattle.format.specs.Words.{header, headerOf, slotAt, putSlot, freeSlot, headOf, rootOf, spareOf, shownHeader}
-use Rattle.format.specs.Shows.{At, Holds, holds-leaf, holds-node, HoldsTop, chain-more, Shows}
+use Rattle.format.specs.Words.{header, slotAt, putSlot, freeSlot, headOf, rootOf, spareOf, shownHeader, weighing}
+use Rattle.format.specs.Shows.{At, Holds, holds-leaf, holds-node, HoldsTop, chain-more, Shows, PoolShows}
+use Rattle.format.specs.Performing.{written}
 use Rattle.format.proofs.Slots.{header-eq, slot-length}
-use Rattle.tree.proofs.Counts.{one-same, one-other, root-count}
-use Rattle.format.proofs.Frame.{frame, chain-frame, chain-other, rootSlot, holds-root, at-written, at-other}
-use Rattle.format.proofs.Replace.{In, top, in-left, in-right, in-holds, in-count, replace, reweighed}
-use Rattle.format.proofs.Shown.{tree-once, shows-tree}
+use Rattle.tree.proofs.Counts.{one-same, root-count}
+use Rattle.format.proofs.Frame.{chain-other, rootSlot, weight-of-root, holds-root, at-written}
+use Rattle.format.proofs.Writes.{Puts, slotsPut, Wrote, nothing-yet, and-at, last, before, wrote-length, wrote-other, got, kept, chain-kept}
+use Rattle.format.proofs.Replace.{In, top, in-left, in-right, in-holds, in-count, replace}
+use Rattle.format.proofs.Shown.{placed-once, shows-tree}
 use Rattle.format.proofs.Cover.{tree-light}
-use Rattle.updates.specs.Updating.{written, way, sum, weightAt, freed, freedWords, siblingOf, joined, deleteRoot, deleteBelow, deleteLeaf, deleteAtLeaf, deleteUnder, deleteWords, deleteAnswer}
+use Rattle.format.proofs.Performing.{Does, does-refused, does-done, does-pool}
+use Rattle.updates.specs.Updating.{way, sum, weightUnder, freed, freedWords, siblingOf, joined, deleteRoot, deleteBelow, deleteLeaf, deleteAtLeaf, deleteUnder, deleteWords, deleteAnswer}
 use Rattle.updates.proofs.Ways.{parentOf}
-use Rattle.updates.proofs.Writes.{weight-root, weight-below, three-length, three-other, Does, does-refused, does-done}
+use Rattle.updates.proofs.RootWeight.{weight-root, weight-below}
 use Rattle.updates.proofs.SearchShows.{root-empty, root-some, way-shows, leaf-shows}
 
 -- `Fork v s w b t`: the root v of t has two children, the leaf s, on either side, and b, to which an edge of weight w leads.
@@ -47,7 +51,7 @@ record Forked (p : List ℕ) (v s w : ℕ) (b : Tree) (q : ℕ) : Type 0 where
   sibling-held : Holds p w b
 
 own : {p : List ℕ} {y : ℕ} {c : Slot} → At p y c → At p y (slotAt p y)
-own h = record { from-one = h .from-one; room = h .room; content = refl }
+own h = record { from-one = h .from-one; inside = h .inside; content = refl }
 
 module _ {v s w : ℕ} {b : Tree} where
   fork-count : (y : ℕ) {t : Tree} → Fork v s w b t → count y t ≡ one (eqb y v) + one (eqb y s) + count y b
@@ -147,12 +151,12 @@ module _ {x : ℕ} where
 
   -- "(1 if it is the root)"
   cutting-root : {t : Tree} {c : Cut} → Del x 1 t c → ((s : ℕ) → count s t ≤ 1)
-      → Cutting x 0 1 t (c .leafSlot) (c .siblingSlot) (c .tree) (weightAt (slotOf t)) 1
+      → Cutting x 0 1 t (c .leafSlot) (c .siblingSlot) (c .tree) (weightUnder (slotOf t)) 1
   unfolding cut slotOf count parentOf reachedSlot reach
   cutting-root (cut-left {v} {k} {wl} {wr} {s} {r} h) o =
-      here (weightAt v) leaf-left (goes-left x 0 v k wl wr (leaf s x) r h) (weight-root v (1 + wr))
+      here (weightUnder v) leaf-left (goes-left x 0 v k wl wr (leaf s x) r h) (weight-root v (1 + wr))
   cutting-root (cut-right {v} {k} {wl} {wr} {s} {l} h) o =
-      here (weightAt v) leaf-right (goes-right x 0 v k wl wr l (leaf s x) h) (weight-root v (1 + wl))
+      here (weightUnder v) leaf-right (goes-right x 0 v k wl wr l (leaf s x) h) (weight-root v (1 + wl))
   cutting-root (del-left {v} {k} {wl} {wr} {l} {r} h d) o =
       let e = cutting v d in
       let n : v ≢ e .parent = λ f. omega (arith, o (e .parent), one-same (e .parent) v (sym f), parent-stands e) in
@@ -168,126 +172,115 @@ unfolding movedTo slotOf
 moved-root v (leaf s k) = refl
 moved-root v (node s k wl l wr r) = refl
 
-moved-holds : {p p′ : List ℕ} {w : ℕ} {t : Tree} (v q : ℕ) → Holds p w t → At p′ v (reweighed (rootSlot w t) q) → length p′ ≡ length p
-    → count (slotOf t) t ≤ 1 → ((y : ℕ) → 1 ≤ count y t → y ≢ slotOf t → slotAt p′ y ≡ slotAt p y) → Holds p′ q (movedTo v t)
+moved-holds : {p p′ : List ℕ} {xs : Puts} {w : ℕ} {t : Tree} (v q : ℕ) → Wrote p xs p′ → Holds p w t → At p′ v (weighing (rootSlot w t) q)
+    → ((y : ℕ) → countIn y (slotsPut xs) + count y t ≤ 1 + one (eqb y (slotOf t))) → Holds p′ q (movedTo v t)
 unfolding movedTo slotOf count
-moved-holds v q (holds-leaf h) a m o f = holds-leaf a
-moved-holds v q (holds-node {s} {l} {r} h hl hr) a m o f = holds-node a
-    (frame hl m (λ y i. f y (omega arith) (λ e. let j : 1 ≤ count s l = rw e at i in omega (arith, one-same s s refl))))
-    (frame hr m (λ y i. f y (omega arith) (λ e. let j : 1 ≤ count s r = rw e at i in omega (arith, one-same s s refl))))
-
-root-weight : (w : ℕ) (t : Tree) → (rootSlot w t) .weight ≡ w
-root-weight w (leaf s k) = refl
-root-weight w (node s k wl l wr r) = refl
-
--- A tree of k keys has 2k - 1 nodes.
-nodes-of : (t : Tree) → size t + 1 ≡ 2 * leaves t
-unfolding size leaves
-nodes-of (leaf s k) = refl
-nodes-of (node s k wl l wr r) = omega (arith, nodes-of l, nodes-of r)
+moved-holds v q z (holds-leaf h) a n = holds-leaf a
+moved-holds v q z (holds-node h hl hr) a n = holds-node a (kept z hl (λ y. omega (arith, n y))) (kept z hr (λ y. omega (arith, n y)))
 
 -- Below the root: what the three writes leave. a is the leaf's slot and b the sibling's.
-module _ {p : List ℕ} {c x a b : ℕ} {t u : Tree} {fs : List ℕ} (g : Sound (state c (full t) fs)) (s : Shows p (state c (full t) fs))
-    (k : Cutting x 0 1 t a b u (weightAt (slotOf t)) 1) where
+module _ {h : Header} {p : List ℕ} {S : State} {x a b : ℕ} {t u : Tree} (g : Sound S) (s : Shows h p S) (tree-is : S .top ≡ full t)
+    (k : Cutting x 0 1 t a b u (weightUnder (slotOf t)) 1) where
+  once : (y : ℕ) → count y t + countIn y (S .free) ≤ 1
+  once = placed-once g tree-is
+
+  held : Holds p 1 t
+  held = shows-tree s tree-is
+
   within : (y : ℕ) → one (eqb y (k .parent)) + one (eqb y a) + count y (k .sibling) ≤ count y t
   within y = omega (arith, in-count y (k .put), fork-count y (k .fork))
 
   sibling-root : (y : ℕ) → one (eqb y b) ≤ count y (k .sibling)
   sibling-root y = rw (sym (k .sibling-is)) (root-count y (k .sibling))
 
-  va : k .parent ≢ a
-  va e = let v = k .parent in omega (arith, tree-once g v, within v, one-same v v refl, one-same v a e)
-
-  vb : k .parent ≢ b
-  vb e = let v = k .parent in omega (arith, tree-once g v, within v, sibling-root v, one-same v v refl, one-same v b e)
-
   ba : b ≢ a
-  ba e = omega (arith, tree-once g b, within b, sibling-root b, one-same b b refl, one-same b a e)
+  ba e = omega (arith, once b, within b, sibling-root b, one-same b b refl, one-same b a e)
 
   fork-held : Forked p (k .parent) a (k .siblingWeight) (k .sibling) (k .weight)
-  fork-held = forked (k .fork) (rw (k .sibling-is) ba) (in-holds (k .put) (shows-tree s))
+  fork-held = forked (k .fork) (rw (k .sibling-is) ba) (in-holds (k .put) held)
+
+  sibling-at : At p b (rootSlot (k .siblingWeight) (k .sibling))
+  sibling-at = rw (k .sibling-is) at (holds-root (fork-held .sibling-held))
+
+  -- the sibling, as it is written into the parent's slot
+  moved : Slot
+  moved = weighing (rootSlot (k .siblingWeight) (k .sibling)) (weightUnder (slotOf t) (k .parent) (k .weight + k .siblingWeight))
 
   cut-does : (n : ℕ) → slotOf u ≡ slotOf t → size t ≡ size u + 2
-      → let new = reweighed (rootSlot (k .siblingWeight) (k .sibling)) (weightAt (slotOf t) (k .parent) (k .weight + k .siblingWeight)) in
-      Does (written (putSlot (putSlot (putSlot p (k .parent) new) a (freeSlot (headOf fs))) b (freeSlot a)) (Done n) (header (slotOf t) b (pred (pred (size t))) (spareOf (full t))))
-      (gives (Done n) (state c (full u) (b ∷ (a ∷ fs))))
-  unfolding countIn shownHeader rootOf nodes spareOf HoldsTop
+      → Does (written (putSlot (putSlot (putSlot p (k .parent) moved) a (freeSlot (headOf (S .free)))) b (freeSlot a)) (Done n) (header (slotOf t) b (pred (pred (size t))) (spareOf (full t))))
+      (gives (Done n) (state (S .slots) (full u) (b ∷ (a ∷ S .free))))
+  unfolding moved countIn shownHeader rootOf nodes spareOf HoldsTop
   cut-does n root less =
       let v = k .parent in
-      let new = reweighed (rootSlot (k .siblingWeight) (k .sibling)) (weightAt (slotOf t) v (k .weight + k .siblingWeight)) in
-      let first = freeSlot (headOf fs) in
-      let second = freeSlot a in
       let f = fork-held in
-      let same = three-length p v a b new first second in
-      let sibling-at : At p b (rootSlot (k .siblingWeight) (k .sibling)) = rw (k .sibling-is) at (holds-root (f .sibling-held)) in
-      does-done _ n _ _ (same ∙ s .length-is)
+      let w : Wrote p ((b, freeSlot a) ∷ (a, freeSlot (headOf (S .free))) ∷ (v, moved) ∷ []) _ = and-at (and-at (and-at nothing-yet)) in
+      let apart : (y : ℕ) → countIn y (b ∷ a ∷ v ∷ []) + countIn y (S .free) ≤ 1 = λ y. omega (arith, once y, within y, sibling-root y) in
+      does-done _ n _ _ (wrote-length w ∙ s .length-is)
       (header-eq (sym root) refl (omega arith) refl)
-      (replace (k .put) (moved-root v (k .sibling) ∙ sym (fork-root (k .fork))) (λ y. omega (arith, tree-once g y)) same
-      (λ y i j. three-other p v a b new first second y (omega (arith, fork-count y (k .fork), sibling-root y)))
-      (shows-tree s)
-      (moved-holds v _ (f .sibling-held) (at-other (at-other (at-written (f .parent-slot) new) a first (λ e. va (sym e))) b second (λ e. vb (sym e))) same
-      (omega (arith, tree-once g (slotOf (k .sibling)), within (slotOf (k .sibling))))
-      (λ y i j. three-other p v a b new first second y (omega (arith, tree-once g y, within y, one-other y b (rw (k .sibling-is) at j))))))
-      (chain-more (at-written (at-other (at-other sibling-at v new vb) a first (λ e. ba (sym e))) second)
-      (chain-more (at-other (at-written (at-other (f .leaf-slot) v new va) first) b second ba)
-      (chain-frame (s .chain-held) same (λ y i. three-other p v a b new first second y (omega (arith, tree-once g y, within y, sibling-root y))))))
+      (replace (k .put) (moved-root v (k .sibling) ∙ sym (fork-root (k .fork))) (λ y. omega (arith, once y)) (wrote-length w)
+      (λ y i j. wrote-other w y (omega (arith, fork-count y (k .fork), sibling-root y)))
+      held
+      (moved-holds v _ w (f .sibling-held) (got w (f .parent-slot) (before (before last)) (omega (arith, apart v)))
+      (rw (k .sibling-is) (λ y. omega (arith, once y, within y)))))
+      (chain-more (got w sibling-at last (omega (arith, apart b)))
+      (chain-more (got w (f .leaf-slot) (before last) (omega (arith, apart a))) (chain-kept w (s .chain-held) apart)))
 
   -- what is written is that: the sum of two weights, none of them above 255, does not wrap
-  sibling-at : slotAt p b ≡ rootSlot (k .siblingWeight) (k .sibling)
-  sibling-at = (rw (k .sibling-is) at (holds-root (fork-held .sibling-held))) .content
-
   light : (y : ℕ) → 1 ≤ count y t → (slotAt p y) .weight ≤ mostLevel
   unfolding GoodTop
-  light y i = tree-light (shows-tree s) (g .good .chromatic) (omega arith) (g .good .low) y i
+  light y i = let good : Good t = rw tree-is at (g .good) in tree-light held (good .chromatic) (omega arith) (good .low) y i
 
-  joined-is : joined (slotOf t) (k .parent) (slotAt p (k .parent)) (slotAt p b)
-      ≡ reweighed (rootSlot (k .siblingWeight) (k .sibling)) (weightAt (slotOf t) (k .parent) (k .weight + k .siblingWeight))
-  unfolding joined
+  joined-is : joined (slotOf t) (k .parent) (slotAt p (k .parent)) (slotAt p b) ≡ moved
+  unfolding joined moved
   joined-is =
       let v = k .parent in
-      let sibling-weight : (slotAt p b) .weight ≡ k .siblingWeight = rw sibling-at (root-weight (k .siblingWeight) (k .sibling)) in
+      let sibling-weight : (slotAt p b) .weight ≡ k .siblingWeight = rw (sibling-at .content) (weight-of-root (k .siblingWeight) (k .sibling)) in
       let plus : sum ((slotAt p v) .weight) ((slotAt p b) .weight) ≡ k .weight + k .siblingWeight =
       omega (arith, fork-held .weight-is, light v (parent-stands k), light b (omega (arith, within b, sibling-root b, one-same b b refl))) in
-      rw plus (rw sibling-at)
+      rw plus (rw (sibling-at .content))
 
   below-does : (n : ℕ) → slotOf u ≡ slotOf t → size t ≡ size u + 2 → size t / 2 ≡ n
-      → Does (deleteBelow p (headerOf p) (k .parent) a) (gives (Done n) (state c (full u) (b ∷ (a ∷ fs))))
+      → Does (deleteBelow p h (k .parent) a) (gives (Done n) (state (S .slots) (full u) (b ∷ (a ∷ S .free))))
   unfolding deleteBelow freed freedWords shownHeader rootOf nodes
   below-does n root less half =
       let sibling-slot : siblingOf (slotAt p (k .parent)) a ≡ b = fork-held .sibling-is ∙ k .sibling-is in
-      rw (s .header-is) (rw (sibling-slot, joined-is, half) (cut-does n root less))
+      let was : h ≡ header (slotOf t) (headOf (S .free)) (size t) (spareOf (full t)) = rw tree-is at (s .header-is) in
+      rw was (rw (sibling-slot, joined-is, half) (cut-does n root less))
 
 -- A root leaf is freed.
-root-does : (p : List ℕ) (x c y k : ℕ) (fs : List ℕ) → Sound (state c (full (leaf y k)) fs) → Shows p (state c (full (leaf y k)) fs)
-    → Does (deleteRoot p (headerOf p) y) (gives (Done 0) (state c empty (y ∷ fs)))
-unfolding deleteRoot freed freedWords countTop count countIn shownHeader rootOf nodes spareOf slotOf size HoldsTop
-root-does p x c y k fs g s =
-    let new = freeSlot (headOf fs) in
-    rw (s .header-is) (does-done (putSlot p y new) 0 _ _ (slot-length p y new ∙ s .length-is) refl tt
-    (chain-more (at-written (holds-root (shows-tree s)) new) (chain-other (s .chain-held) y new (omega (arith, tree-once g y, one-same y y refl)))))
+root-does : {h : Header} {p : List ℕ} {S : State} (y k : ℕ) → Sound S → Shows h p S → S .top ≡ full (leaf y k)
+    → Does (deleteRoot p h y) (gives (Done 0) (state (S .slots) empty (y ∷ S .free)))
+unfolding deleteRoot freed freedWords count shownHeader rootOf nodes spareOf slotOf size HoldsTop
+root-does {h} {p} {S} y k g s e =
+    let new = freeSlot (headOf (S .free)) in
+    let was : h ≡ header y (headOf (S .free)) 1 0 = rw e at (s .header-is) in
+    rw was (does-done (putSlot p y new) 0 _ _ (slot-length p y new ∙ s .length-is) refl tt
+    (chain-more (at-written (holds-root (shows-tree s e)) new) (chain-other (s .chain-held) y new (omega (arith, placed-once g e y, one-same y y refl)))))
 
-deleted-does : (p : List ℕ) (x c : ℕ) (t : Tree) (fs : List ℕ) → reachedKey x t ≡ x → Sound (state c (full t) fs) → Shows p (state c (full t) fs)
-    → Does (deleteLeaf p (headerOf p) (way (parentOf x 0 t) (reachedSlot x t))) (deleted x c t fs)
-unfolding deleteLeaf deleted parentOf reachedSlot reach isLeaf countTop
-deleted-does p x c (leaf y k) fs e g s = root-does p x c y k fs g s
-deleted-does p x c (node v k wl l wr r) fs e g s =
+deleted-does : {h : Header} {p : List ℕ} {S : State} (x : ℕ) (t : Tree) → reachedKey x t ≡ x → Sound S → Shows h p S → S .top ≡ full t
+    → Does (deleteLeaf p h (way (parentOf x 0 t) (reachedSlot x t))) (deleted x S t)
+unfolding deleteLeaf deleted parentOf reachedSlot reach isLeaf
+deleted-does x (leaf y k) i g s e = root-does y k g s e
+deleted-does x (node v k wl l wr r) i g s e =
     let t = node v k wl l wr r in
-    let d = deleteAt x 1 t in
-    let i = deleteAt-is x 1 t refl e in
-    let h = cutting-root i (λ y. omega (arith, tree-once g y)) in
-    let n : h .parent ≢ 0 = λ f. omega (arith, fork-held g s h .parent-slot .from-one) in
-    let half : size t / 2 ≡ leaves (d .tree) = omega (arith, nodes-of t, delete-leaves i) in
-    rw (h .parent-is, h .leaf-is) (rw (ne-eqb _ 0 n, deleteLeaf) (below-does g s h (leaves (d .tree)) (delete-root i) (delete-size i) half))
+    let c = deleteAt x 1 t in
+    let d = deleteAt-is x 1 t refl i in
+    let f = cutting-root d (λ y. omega (arith, placed-once g e y)) in
+    let n : f .parent ≢ 0 = λ z. omega (arith, fork-held g s e f .parent-slot .from-one) in
+    let half : size t / 2 ≡ leaves (c .tree) = omega (arith, nodes-of t, delete-leaves d) in
+    rw (f .parent-is, f .leaf-is) (rw (ne-eqb _ 0 n, deleteLeaf) (below-does g s e f (leaves (c .tree)) (delete-root d) (delete-size d) half))
 
-delete-shows-top : (p : List ℕ) (x c : ℕ) (t : Top) (fs : List ℕ) → Sound (state c t fs) → Shows p (state c t fs)
-    → Does (deleteUnder p (headerOf p) x) (delete x (state c t fs))
+pub delete-shows : {h : Header} {p : List ℕ} {S : State} (x : ℕ) → Sound S → Shows h p S → Does (deleteUnder p h x) (delete x S)
 unfolding deleteUnder deleteAtLeaf delete
-delete-shows-top p x c empty fs g s = rw (eq-eqb _ _ (root-empty s), deleteUnder) (does-refused p KeyAbsent _ s)
-delete-shows-top p x c (full t) fs g s = rw (ne-eqb _ _ (root-some s), deleteUnder, way-shows x g s) (same-or-not (reachedKey x t) x
-    (λ e. rw (leaf-shows x s, deleteAtLeaf, eq-eqb _ _ e, delete) (deleted-does p x c t fs e g s))
-    (λ n. rw (leaf-shows x s, deleteAtLeaf, ne-eqb _ _ n, delete) (does-refused p KeyAbsent _ s)))
+delete-shows {h} {p} {S} x g s = go (S .top) refl
+  where
+    go : (t : Top) → S .top ≡ t → Does (deleteUnder p h x) (delete x S)
+    go empty e = rw (eq-eqb _ _ (root-empty s e), deleteUnder, e, delete) (does-refused KeyAbsent s)
+    go (full t) e = rw (ne-eqb _ _ (root-some s e), deleteUnder, way-shows s e x g, leaf-shows s e x, deleteAtLeaf, e, delete) (same-or-not (reachedKey x t) x
+        (λ i. rw (eq-eqb _ _ i, way-shows s e x g) (deleted-does x t i g s e))
+        (λ n. rw (ne-eqb _ _ n) (does-refused KeyAbsent s)))
 
-pub delete-shows : (p : List ℕ) (x : ℕ) (S : State) → Sound S → Shows p S
-    → (deleteAnswer p x ≡ (delete x S) .answer) × Shows (deleteWords p x) ((delete x S) .after)
+pub delete-entry : {p : List ℕ} {S : State} (x : ℕ) → Sound S → PoolShows p S
+    → (deleteAnswer p x ≡ (delete x S) .answer) × PoolShows (deleteWords p x) ((delete x S) .after)
 unfolding deleteAnswer deleteWords
-delete-shows p x S g s = let d = delete-shows-top p x (S .slots) (S .top) (S .free) g s in (d .answers, d .shows)
+delete-entry x g s = let d = delete-shows x g s in (d .answers, does-pool d)

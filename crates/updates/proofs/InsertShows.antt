@@ -1,35 +1,38 @@
--- Insert on words that show a sound State answers as document 01's insert does and leaves words that show its State
--- (`insert-shows`).
+-- Insert under a header, on words that show a sound State, answers as document 01's insert does and leaves a header and words that
+-- show its State (`insert-shows`); the entry of a pool leaves a pool that shows it (`insert-entry`).
 -- Why: the two slots taken are free ones, so the three slots that are written are apart, and no other slot of the tree or of the rest
 -- of the chain is among them. The tree is the old one with one subtree replaced, v's leaf by the new inner node (`insert-in`). The
 -- sums do not wrap, for a sound pool has at most 1,023 nodes. Assumes nothing.
 use mathlib.Core.Path.{_≡_, refl, ap, sym, _∙_}
 use mathlib.Core.Logic.{_≢_}
 use mathlib.Core.List.{List, [], _∷_}
-use lib.Dec.{eqb}
+use lib.ListN.{length}
 use borrow.Author.Tests.{eq-eqb, ne-eqb, le-leb, lt-leb}
 use native.Mathlib.Omega.{arith}
-use Prim.Native.Nat.{ℕ, pred, _+_, _≤_, min, max}
+use Prim.Native.Nat.{ℕ, pred, _+_, _≤_, _<_, min, max}
 use Rattle.tree.specs.declared.Answer.the-variants.{Done}
 use Rattle.tree.specs.declared.Refusal.the-variants.{KeyPresent, NoRoom}
-use Rattle.tree.specs.Tree.{Tree, leaf, node, slotOf, size, one, count, countIn}
+use Rattle.tree.specs.Tree.{Tree, leaf, node, slotOf, size, count, countIn}
 use Rattle.tree.specs.Updates.{reach, reachedSlot, reachedKey, insertAt, newSlot}
-use Rattle.tree.specs.State.{State, state, Top, empty, full, nodes, countTop, Sound, gives, insertFirst, insertMore, insert}
-use Rattle.tree.proofs.Tests.{same-or-not}
+use Rattle.tree.specs.State.{State, state, empty, full, nodes, Sound, Outcome, gives, refuses, insert}
+use Rattle.tree.proofs.Updated.{Inserting, is-there, no-first, no-two, as-first, beside, inserting}
 use Rattle.tree.proofs.Search.{search-leaf, leaf-slot}
 use Rattle.tree.proofs.Insert.{Ins, at-leaf, in-left as ins-left, in-right as ins-right, insertAt-is, insert-size, insert-root}
 use Rattle.format.specs.declared.Header.{Header}
-use Rattle.format.specs.Words.{header, slot, headerOf, slotAt, putSlot, freeSlot, headOf, rootOf, spareOf, shownHeader}
-use Rattle.format.specs.Shows.{holds-leaf, holds-node, HoldsTop, Shows}
+use Rattle.format.specs.declared.Slot.{Slot}
+use Rattle.format.specs.Words.{header, slot, putSlot, headOf, rootOf, spareOf, shownHeader}
+use Rattle.format.specs.Shows.{holds-leaf, holds-node, HoldsTop, Shows, PoolShows}
 use Rattle.format.proofs.Slots.{header-eq, slot-length}
 use Rattle.tree.proofs.Counts.{one-same}
-use Rattle.format.proofs.Frame.{chain-frame, chain-other, at-written, at-other}
+use Rattle.format.proofs.Frame.{chain-other, at-written}
+use Rattle.format.proofs.Writes.{Wrote, nothing-yet, and-at, last, before, wrote-length, wrote-other, got, chain-kept}
 use Rattle.format.proofs.Replace.{In, top, in-left, in-right, in-count, replace}
-use Rattle.format.proofs.Shown.{chain-first, tree-once, sound-once, shows-tree, shows-free}
-use Rattle.format.proofs.Cover.{sound-total}
-use Rattle.updates.specs.Updating.{written, sum, leafSlot, weightAt, taken, split, insertRoot, insertBeside, insertAtLeaf, insertUnder, insertWords, insertAnswer}
+use Rattle.format.proofs.Shown.{FirstFree, chain-first, placed-once, sound-once, shows-tree, shows-free}
+use Rattle.tree.proofs.SoundStates.{sound-total}
+use Rattle.format.proofs.Performing.{Does, does-refused, does-done, does-pool}
+use Rattle.updates.specs.Updating.{newLeaf, weightUnder, taken, split, insertRoot, insertBeside, insertAtLeaf, insertUnder, insertWords, insertAnswer}
 use Rattle.updates.proofs.Ways.{reachedWeight, reached-at}
-use Rattle.updates.proofs.Writes.{weight-root, weight-below, three-length, three-other, Does, does-refused, does-done}
+use Rattle.updates.proofs.RootWeight.{weight-root, weight-below}
 use Rattle.updates.proofs.SearchShows.{root-empty, root-some, way-shows, leaf-shows}
 
 -- the inner node that v becomes
@@ -48,7 +51,7 @@ module _ {x a b : ℕ} where
   -- also where v is the root and keeps its 1.
   insert-in-root : {q : ℕ} {t u : Tree} → Ins x a b 1 t q u → ((s : ℕ) → count s t ≤ 1)
       → In (reachedWeight x 1 t) (leaf (reachedSlot x t) (reachedKey x t))
-      (weightAt (slotOf t) (reachedSlot x t) (pred (reachedWeight x 1 t))) (newNode x a b (reachedSlot x t) (reachedKey x t)) 1 t 1 u
+      (weightUnder (slotOf t) (reachedSlot x t) (pred (reachedWeight x 1 t))) (newNode x a b (reachedSlot x t) (reachedKey x t)) 1 t 1 u
   unfolding reachedWeight reachedSlot reachedKey reach slotOf count
   insert-in-root (at-leaf {v}) c = rw (weight-root v _) top
   insert-in-root (ins-left {v} {k} {l} h i) c =
@@ -60,89 +63,85 @@ module _ {x a b : ℕ} where
       let n : v ≢ s = λ e. omega (arith, c s, one-same s v (sym e), leaf-slot (search-leaf x r)) in
       rw (lt-leb x k h, reachedWeight, reachedSlot, reachedKey, reach) (rw (weight-below v s _ n) (in-right (insert-in i)))
 
--- Two slots are free: what the three writes leave.
-module _ {p : List ℕ} {c a b : ℕ} {t : Tree} {fs : List ℕ} (x : ℕ) (g : Sound (state c (full t) (a ∷ b ∷ fs))) (s : Shows p (state c (full t) (a ∷ b ∷ fs))) where
-  two-does : Does
-      (written (split p (slotOf t) (reachedSlot x t) (slot (reachedKey x t) 0 0 (reachedWeight x 1 t)) a b x) (Done (newSlot x (reachedKey x t) a b))
-      (header (slotOf t) (headOf fs) (size t + 2) (spareOf (full t))))
-      (gives (Done (newSlot x (reachedKey x t) a b)) (state c (full ((insertAt x a b 1 t) .1)) fs))
-  unfolding split countTop countIn count slotOf shownHeader rootOf nodes spareOf HoldsTop
-  two-does =
-      let v = reachedSlot x t in
-      let k = reachedKey x t in
-      let low = leafSlot (min x k) in
-      let high = leafSlot (max x k) in
-      let inner = slot (min x k) a b (weightAt (slotOf t) v (pred (reachedWeight x 1 t))) in
-      let i = insertAt-is x a b 1 t in
-      let once = tree-once g in
-      let leaf-count : (y : ℕ) → one (eqb y v) ≤ count y t = λ y. in-count y (insert-in i) in
-      let one = chain-first (s .chain-held) in
-      let two = chain-first (one .rest) in
-      let ab : a ≢ b = λ e. omega (arith, once a, one-same a a refl, one-same a b e) in
-      let ba : b ≢ a = λ e. ab (sym e) in
-      let va : v ≢ a = λ e. omega (arith, once v, leaf-count v, one-same v v refl, one-same v a e) in
-      let av : a ≢ v = λ e. va (sym e) in
-      let vb : v ≢ b = λ e. omega (arith, once v, leaf-count v, one-same v v refl, one-same v b e) in
-      let bv : b ≢ v = λ e. vb (sym e) in
-      let same = three-length p a b v low high inner in
-      does-done _ _ _ _ (same ∙ s .length-is)
-      (header-eq (sym (insert-root i)) refl (sym (insert-size i)) refl)
-      (replace (insert-in-root i (λ y. omega (arith, once y))) refl (λ y. omega (arith, once y)) same
-      (λ y j n. three-other p a b v low high inner y (omega (arith, once y)))
-      (shows-tree s)
-      (holds-node (at-written (at-other (at-other (reached-at x (shows-tree s)) a low av) b high bv) inner)
-      (holds-leaf (at-other (at-other (at-written (one .first) low) b high ba) v inner va))
-      (holds-leaf (at-other (at-written (at-other (two .first) a low ab) high) v inner vb))))
-      (chain-frame (two .rest) same (λ y j. three-other p a b v low high inner y (omega (arith, once y, leaf-count y))))
+-- The chain's head, which is taken first.
+head-is : {h : Header} {p : List ℕ} {S : State} {fs : List ℕ} → Shows h p S → S .free ≡ fs → h .free ≡ headOf fs
+head-is s e = shows-free s ∙ ap headOf e
 
--- What is taken: the chain's head.
-taken-is : (p : List ℕ) (root a n size spare : ℕ) → slotAt p a ≡ freeSlot n → taken p (header root a size spare) ≡ header root n (sum size 1) spare
-unfolding taken
-taken-is p root a n size spare e = rw e
+head : {h : Header} {p : List ℕ} {S : State} {a : ℕ} {fs : List ℕ} → Shows h p S → S .free ≡ a ∷ fs → FirstFree p a fs
+head s e = chain-first (rw e at (s .chain-held))
 
--- The room: 7 "fewer free slots than needed (1 if empty, else 2)".
-beside-does : (p : List ℕ) (x c : ℕ) (t : Tree) (fs : List ℕ) → Sound (state c (full t) fs) → Shows p (state c (full t) fs)
-    → Does (insertBeside p (headerOf p) (reachedSlot x t) (slot (reachedKey x t) 0 0 (reachedWeight x 1 t)) x) (insertMore x c t fs)
-unfolding insertBeside insertMore shownHeader rootOf nodes
-beside-does p x c t [] g s = rw (eq-eqb _ _ (shows-free s), insertBeside) (does-refused p NoRoom _ s)
-beside-does p x c t (a ∷ []) g s =
-    let one = chain-first (s .chain-held) in
-    let n : (headerOf p) .free ≢ 0 = λ e. omega (arith, shows-free s, one .first .from-one) in
-    let e : (taken p (headerOf p)) .free ≡ 0 = rw (s .header-is, taken-is p (slotOf t) a 0 (size t) (spareOf (full t)) (one .first .content)) in
-    rw (ne-eqb _ _ n, insertBeside, eq-eqb _ _ e) (does-refused p NoRoom _ s)
-beside-does p x c t (a ∷ (b ∷ fs)) g s =
-    let one = chain-first (s .chain-held) in
+-- Beside a leaf. 7 "fewer free slots than needed (1 if empty, else 2)".
+beside-refused : {h : Header} {p : List ℕ} {S : State} (v : ℕ) (c : Slot) (x : ℕ) → Shows h p S → length (S .free) < 2 → Does (insertBeside p h v c x) (refuses NoRoom S)
+unfolding insertBeside taken
+beside-refused {h} {p} {S} v c x s few = go (S .free) refl
+  where
+    go : (fs : List ℕ) → S .free ≡ fs → Does (insertBeside p h v c x) (refuses NoRoom S)
+    go [] e = rw (eq-eqb _ _ (head-is s e), insertBeside) (does-refused NoRoom s)
+    go (a ∷ []) e =
+        let first = head s e .first in
+        let n : h .free ≢ 0 = λ z. omega (arith, head-is s e, first .from-one) in
+        let next : (taken p h) .free ≡ 0 = rw (head-is s e, first .content) in
+        rw (ne-eqb _ _ n, insertBeside, eq-eqb _ _ next) (does-refused NoRoom s)
+    go (a ∷ (b ∷ fs)) e = absurd (omega (arith, ap length e))
+
+-- Where two slots are free: what the three writes leave.
+beside-does : {h : Header} {p : List ℕ} {S : State} {t : Tree} {a b : ℕ} {fs : List ℕ} (x : ℕ) → Sound S → Shows h p S → S .top ≡ full t → S .free ≡ a ∷ (b ∷ fs)
+    → Does (insertBeside p h (reachedSlot x t) (slot (reachedKey x t) 0 0 (reachedWeight x 1 t)) x)
+    (gives (Done (newSlot x (reachedKey x t) a b)) (state (S .slots) (full ((insertAt x a b 1 t) .1)) fs))
+unfolding insertBeside taken split countIn count slotOf shownHeader rootOf nodes spareOf HoldsTop
+beside-does {h} {p} {t = t} {a} {b} {fs} x g s tree-is free-is =
+    let v = reachedSlot x t in
+    let k = reachedKey x t in
+    let inner = slot (min x k) a b (weightUnder (slotOf t) v (pred (reachedWeight x 1 t))) in
+    let i = insertAt-is x a b 1 t in
+    let once : (y : ℕ) → count y t + countIn y (a ∷ b ∷ fs) ≤ 1 = λ y. rw free-is at (placed-once g tree-is y) in
+    let apart : (y : ℕ) → countIn y (v ∷ b ∷ a ∷ []) + countIn y fs ≤ 1 = λ y. omega (arith, once y, in-count y (insert-in i)) in
+    let held = shows-tree s tree-is in
+    let one = head s free-is in
     let two = chain-first (one .rest) in
+    let was : h ≡ header (slotOf t) a (size t) (spareOf (full t)) = rw (tree-is, free-is) at (s .header-is) in
     let na : a ≢ 0 = λ e. omega (arith, one .first .from-one) in
-    let first = taken-is p (slotOf t) a b (size t) (spareOf (full t)) (one .first .content) in
-    let nb : (taken p (shownHeader (state c (full t) (a ∷ b ∷ fs)))) .free ≢ 0 = λ e. omega (arith, two .first .from-one, ap (λ (h : Header). h .free) first) in
-    let second = taken-is p (slotOf t) b (headOf fs) (sum (size t) 1) (spareOf (full t)) (two .first .content) in
-    let more : sum (sum (size t) 1) 1 ≡ size t + 2 = omega (arith, sound-total g, g .few) in
-    rw (s .header-is) (rw (ne-eqb a 0 na, insertBeside, ne-eqb _ 0 nb) (rw (first, second, more) (two-does x g s)))
+    let nb : b ≢ 0 = λ e. omega (arith, two .first .from-one) in
+    let w : Wrote p ((v, inner) ∷ (b, newLeaf (max x k)) ∷ (a, newLeaf (min x k)) ∷ []) _ = and-at (and-at (and-at nothing-yet)) in
+    rw was (rw (ne-eqb a 0 na, insertBeside, one .first .content, ne-eqb b 0 nb) (rw (one .first .content, two .first .content) (
+    does-done _ _ _ _ (wrote-length w ∙ s .length-is)
+    (header-eq (sym (insert-root i)) refl (omega (arith, insert-size i, sound-total g, ap nodes tree-is, g .few)) refl)
+    (replace (insert-in-root i (λ y. omega (arith, once y))) refl (λ y. omega (arith, once y)) (wrote-length w)
+    (λ y j n. wrote-other w y (omega (arith, once y)))
+    held
+    (holds-node (got w (reached-at x held) last (omega (arith, apart v)))
+    (holds-leaf (got w (one .first) (before (before last)) (omega (arith, apart a))))
+    (holds-leaf (got w (two .first) (before last) (omega (arith, apart b))))))
+    (chain-kept w (two .rest) apart))))
 
 -- Into an empty tree.
-root-does : (p : List ℕ) (x c : ℕ) (fs : List ℕ) → Sound (state c empty fs) → Shows p (state c empty fs)
-    → Does (insertRoot p (headerOf p) x) (insertFirst x c fs)
-unfolding insertRoot insertFirst countIn shownHeader rootOf nodes spareOf slotOf size HoldsTop
-root-does p x c [] g s = rw (eq-eqb _ _ (shows-free s), insertRoot) (does-refused p NoRoom _ s)
-root-does p x c (a ∷ fs) g s =
-    let one = chain-first (s .chain-held) in
-    let n : a ≢ 0 = λ e. omega (arith, one .first .from-one) in
-    let new = leafSlot x in
-    rw (s .header-is) (rw (ne-eqb a 0 n, insertRoot, taken-is p 0 a (headOf fs) 0 0 (one .first .content)) (
+root-does : {h : Header} {p : List ℕ} {S : State} {a : ℕ} {fs : List ℕ} (x : ℕ) → Sound S → Shows h p S → S .top ≡ empty → S .free ≡ a ∷ fs
+    → Does (insertRoot p h x) (gives (Done a) (state (S .slots) (full (leaf a x)) fs))
+unfolding insertRoot taken countIn shownHeader rootOf nodes spareOf slotOf size HoldsTop
+root-does {h} {p} {S} {a} {fs} x g s e f =
+    let one = head s f in
+    let new = newLeaf x in
+    let was : h ≡ header 0 a 0 0 = rw (e, f) at (s .header-is) in
+    let n : a ≢ 0 = λ z. omega (arith, one .first .from-one) in
+    rw was (rw (ne-eqb a 0 n, insertRoot, one .first .content) (
     does-done (putSlot p a new) a _ _ (slot-length p a new ∙ s .length-is) refl (holds-leaf (at-written (one .first) new))
-    (chain-other (one .rest) a new (omega (arith, sound-once g a, one-same a a refl)))
-    ))
+    (chain-other (one .rest) a new (omega (arith, rw f at (sound-once g a), one-same a a refl)))))
 
-insert-shows-top : (p : List ℕ) (x c : ℕ) (t : Top) (fs : List ℕ) → Sound (state c t fs) → Shows p (state c t fs)
-    → Does (insertUnder p (headerOf p) x) (insert x (state c t fs))
-unfolding insertUnder insertAtLeaf insert
-insert-shows-top p x c empty fs g s = rw (eq-eqb _ _ (root-empty s), insertUnder) (root-does p x c fs g s)
-insert-shows-top p x c (full t) fs g s = rw (ne-eqb _ _ (root-some s), insertUnder, way-shows x g s) (same-or-not (reachedKey x t) x
-    (λ e. rw (leaf-shows x s, insertAtLeaf, eq-eqb _ _ e, insert) (does-refused p KeyPresent _ s))
-    (λ n. rw (leaf-shows x s, insertAtLeaf, ne-eqb _ _ n, insert) (rw (leaf-shows x s) (beside-does p x c t fs g s))))
+pub insert-shows : {h : Header} {p : List ℕ} {S : State} (x : ℕ) → Sound S → Shows h p S → Does (insertUnder p h x) (insert x S)
+unfolding insertUnder insertAtLeaf insertRoot
+insert-shows {h} {p} {S} x g s = go (inserting x S g)
+  where
+    to-leaf : {t : Tree} → S .top ≡ full t → insertUnder p h x ≡ insertAtLeaf p h (reachedSlot x t) x
+    to-leaf e = rw (ne-eqb _ _ (root-some s e), insertUnder, way-shows s e x g)
 
-pub insert-shows : (p : List ℕ) (x : ℕ) (S : State) → Sound S → Shows p S
-    → (insertAnswer p x ≡ (insert x S) .answer) × Shows (insertWords p x) ((insert x S) .after)
+    go : {o : Outcome} → Inserting x S o → Does (insertUnder p h x) o
+    go (is-there e f i) = rw (to-leaf e, leaf-shows s e x, insertAtLeaf, eq-eqb _ _ f) (does-refused KeyPresent s)
+    go (no-first e f i) = rw (eq-eqb _ _ (root-empty s e), insertUnder, eq-eqb _ _ (head-is s f), insertRoot) (does-refused NoRoom s)
+    go (no-two e f n i) = rw (to-leaf e, leaf-shows s e x, insertAtLeaf, ne-eqb _ _ n) (beside-refused _ _ x s f)
+    go (as-first e f i) = rw (eq-eqb _ _ (root-empty s e), insertUnder) (root-does x g s e f)
+    go (beside e f n i) = rw (to-leaf e, leaf-shows s e x, insertAtLeaf, ne-eqb _ _ n) (rw (leaf-shows s e x) (beside-does x g s e f))
+
+pub insert-entry : {p : List ℕ} {S : State} (x : ℕ) → Sound S → PoolShows p S
+    → (insertAnswer p x ≡ (insert x S) .answer) × PoolShows (insertWords p x) ((insert x S) .after)
 unfolding insertAnswer insertWords
-insert-shows p x S g s = let d = insert-shows-top p x (S .slots) (S .top) (S .free) g s in (d .answers, d .shows)
+insert-entry x g s = let d = insert-shows x g s in (d .answers, does-pool d)

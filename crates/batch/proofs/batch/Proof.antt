@@ -6,7 +6,8 @@ use native.Mathlib.Omega.{arith}
 use borrow.Author.Tests.{not-false}
 use Rattle.tree.specs.declared.Refusal.the-variants.{PoolLength, RulesBroken, BadCommand, FewAnswers}
 use Rattle.format.specs.Words.{lengthGood}
-use Rattle.batch.proofs.Calls.{refuses, place-fits, count-fits, finds-bad, finds-ready, finds-none, test-length, test-few, test-broken}
+use Rattle.format.proofs.AuditCases.{code-kept}
+use Rattle.batch.proofs.CallTests.{call-refuses, place-fits, count-fits, finds-bad, finds-ready, finds-none, test-length, test-few, test-broken}
 use borrow.Author.Needs.{needs}
 use Rattle.batch.proofs.batch.Statement.{statement}
 use Rattle.batch.proofs.batch.Tie as tie
@@ -28,13 +29,13 @@ same-length c = search needs
 
 -- Codes 1, 4 and 2, each from the tests before it.
 returns : tie.Need-returns
-returns c = refuses PoolLength _ _ _ {n = 0} (search test-length) (search needs)
+returns c = call-refuses PoolLength _ _ _ {n = 0} (search test-length) (search needs)
 
 returns-2 : tie.Need-returns-2
-returns-2 c = refuses FewAnswers _ _ _ {n = 0} (search test-few) (search needs)
+returns-2 c = call-refuses FewAnswers _ _ _ {n = 0} (search test-few) (search needs)
 
 returns-3 : tie.Need-returns-3
-returns-3 c = refuses RulesBroken _ _ _ {n = 0} (search test-broken) (search needs)
+returns-3 c = call-refuses RulesBroken _ _ _ {n = 0} (search test-broken) (search needs)
 
 scan-requires : tie.Need-scan-requires
 scan-requires c κs = search needs
@@ -69,15 +70,18 @@ refuse-requires-4 c κs = search needs
 same-length-3 : tie.Need-same-length-3
 same-length-3 c = search needs
 
+get-header-requires : tie.Need-get-header-requires
+get-header-requires c κs = search needs
+
 run-requires : tie.Need-run-requires
 run-requires c κs =
-    let a = c .before .before .before in
+    let h = c .before .before in
+    let a = h .before .before .before in
     let r = a .before .before in
     let s = r .before .before .before .before in
     let words = s .before .before .before .before .before .before in
-    let audited = sym (a .audit .ensures) ∙ c .before .before .if3 .left in
-    finds-ready _ _ (s .scan .ensures) _ _ (good (s .before)) _ (r .before .before .found2 .given .1) (r .if2 .left) audited
-    (λ i. omega (arith, words .slice-known .given i))
+    let kept = code-kept _ (λ i. omega (arith, words .slice-known .given i)) (sym (a .audit .ensures) ∙ h .before .before .if3 .left) in
+    finds-ready _ _ (s .scan .ensures) _ _ _ (r .before .before .found2 .given .1) (r .if2 .left) kept (h .get-header .ensures)
 
 same-length-4 : tie.Need-same-length-4
 same-length-4 c = search needs
@@ -85,7 +89,7 @@ same-length-4 c = search needs
 returns-4 : tie.Need-returns-4
 returns-4 c =
     let s = c .before .before .before .before in
-    refuses BadCommand _ _ _ (finds-bad _ _ (s .scan .ensures) _ _ (good (s .before)) _ (c .before .before .found .given .1)) (c .refuse2 .ensures)
+    call-refuses BadCommand _ _ _ (finds-bad _ _ (s .scan .ensures) _ _ (good (s .before)) _ (c .before .before .found .given .1)) (c .refuse2 .ensures)
 
 same-length-5 : tie.Need-same-length-5
 same-length-5 c = search needs
@@ -96,11 +100,13 @@ same-length-6 c = search needs
 returns-5 : tie.Need-returns-5
 returns-5 c =
     let ran = c .before .before .before .before in
-    let a = ran .before .before .before .before in
+    let h = ran .before .before .before in
+    let a = h .before .before .before in
     let r = a .before .before in
     let s = r .before .before .before .before in
-    let audited = sym (a .audit .ensures) ∙ ran .before .before .before .if3 .left in
-    let none = finds-none _ _ (s .scan .ensures) _ _ (good (s .before)) _ (r .before .before .found2 .given .1) (r .if2 .left) audited in
+    let words = s .before .before .before .before .before .before in
+    let kept = code-kept _ (λ i. omega (arith, words .slice-known .given i)) (sym (a .audit .ensures) ∙ h .before .before .if3 .left) in
+    let none = finds-none _ _ (s .scan .ensures) _ _ _ (r .before .before .found2 .given .1) (r .if2 .left) kept in
     (sym (none .0), (sym (none .1), ran .run .ensures))
 
 pub batch-spec : {M : Type 1} → statement M
@@ -124,6 +130,7 @@ batch-spec =
     refuse-requires-4
     same-length-3
     returns-3
+    get-header-requires
     run-requires
     same-length-4
     returns-4

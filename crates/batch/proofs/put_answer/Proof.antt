@@ -1,7 +1,7 @@
 -- `put_answer` meets its contract: two words are written, and past the end none. Assumes nothing.
 use mathlib.Core.Path.{sym}
-use Rattle.batch.specs.Performing.{putAnswer}
-use Rattle.batch.proofs.Answers.{put-past}
+use Rattle.batch.specs.Operated.{putAnswer}
+use Rattle.batch.proofs.AnswersPut.{put-past}
 use borrow.Author.Needs.{needs}
 use Rattle.batch.proofs.put_answer.Statement.{statement}
 use Rattle.batch.proofs.put_answer.Tie as tie

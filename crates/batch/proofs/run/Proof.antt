@@ -1,20 +1,21 @@
--- `run` meets its contract. The loop's invariant, `Turn`: the commands that are left, run on the pool and the answers of now, leave what
--- the call leaves. The measure is how many answer words 256 commands may still fill. Assumes nothing.
+-- `run` meets its contract. The loop's invariant, `Turn`: the commands that are left, run on the pool and the answers of now under the
+-- header of now, leave what the call leaves. The measure is how many answer words 256 commands may still fill. Assumes nothing.
 use mathlib.Core.Path.{_≡_, refl, sym, _∙_}
 use Prim.Native.Nat.{_-_, _*_}
 use native.Mathlib.Omega.{arith}
 use lib.ListN.{length}
-use Rattle.format.specs.Batch.{mostCommands, batch}
-use Rattle.batch.proofs.Runs.{Turn, turn-starts, turn-fault, turn-place, turn-good, turn-ends}
+use Rattle.encoding.specs.Batch.{mostCommands, batch}
+use Rattle.batch.proofs.Turns.{Turn, turn-starts, turn-fault, turn-place, turn-good, turn-ends}
 use borrow.Author.Needs.{needs}
 use Rattle.batch.proofs.run.Statement.{statement}
 use Rattle.batch.proofs.run.Tie as tie
 
 abbrev Inv-loop : tie.InvT-loop
-Inv-loop pool₀ bytes answers₀ at₀ place₀ pool answers at place = (length pool ≡ length pool₀) × (length answers ≡ length answers₀) × Turn bytes (batch pool₀ bytes answers₀) pool answers at place
+Inv-loop pool₀ bytes answers₀ left₀ at₀ place₀ pool answers left at place =
+    (length pool ≡ length pool₀) × (length answers ≡ length answers₀) × Turn bytes (batch pool₀ bytes answers₀) left pool answers at place
 
 abbrev μ-loop : tie.MeasureT-loop
-μ-loop pool₀ bytes answers₀ at₀ place₀ pool answers at place = 2 * mostCommands - place
+μ-loop pool₀ bytes answers₀ left₀ at₀ place₀ pool answers left at place = 2 * mostCommands - place
 
 loop-holds : tie.Need-loop-holds Inv-loop μ-loop
 loop-holds c = (refl, refl, turn-starts (c .before .before .before .pre))
@@ -47,16 +48,16 @@ put-answer-requires c κs = search needs
 
 add-place : tie.Need-add-place Inv-loop μ-loop
 add-place c =
-    let t = c .before .before .before .before .before .before .before .before .before .before .before .before in omega (arith, turn-place (t .before .loop .inv .2) (t .loop-test .taken))
+    let t = c .before .before .before .before .before .before .before .before .before .before .before .before .before in omega (arith, turn-place (t .before .loop .inv .2) (t .loop-test .taken))
 
 loop-less : tie.Need-loop-less Inv-loop μ-loop
 loop-less c =
-    let t = c .before .before .before .before .before .before .before .before .before .before .before .before in omega (arith, turn-place (t .before .loop .inv .2) (t .loop-test .taken))
+    let t = c .before .before .before .before .before .before .before .before .before .before .before .before .before in omega (arith, turn-place (t .before .loop .inv .2) (t .loop-test .taken))
 
 loop-again : tie.Need-loop-again Inv-loop μ-loop
 loop-again c =
-    let put = c .before .before .put-answer in
-    let did = c .before .before .before .before .before .before in
+    let put = c .before .before .before .put-answer in
+    let did = c .before .before .before .before .before .before .before in
     let read = did .before .before .before in
     let t = read .before .before .before in
     let inv = t .before .loop .inv in
@@ -67,14 +68,20 @@ loop-again c =
           (turn-good (inv .2) _ _ (t .loop-test .taken) good (omega (arith, did .before .before .known-told .given)) _ _ (did .perform .ensures .0) (did .perform .ensures .1)),
     )
 
+put-header-requires : tie.Need-put-header-requires Inv-loop μ-loop
+put-header-requires c κs = search needs
+
 same-length-3 : tie.Need-same-length-3 Inv-loop μ-loop
-same-length-3 c = c .before .loop .inv .0
+same-length-3 c = c .before .before .put-header .kept .0 ∙ c .before .before .before .before .before .loop .inv .0
 
 same-length-4 : tie.Need-same-length-4 Inv-loop μ-loop
-same-length-4 c = c .before .loop .inv .1
+same-length-4 c = c .before .before .before .before .before .loop .inv .1
 
 returns-2 : tie.Need-returns-2 Inv-loop μ-loop
-returns-2 c = turn-ends (c .before .loop .inv .2) (c .loop-test .left)
+returns-2 c =
+    let put = c .before .before in
+    let e = turn-ends (put .before .before .before .loop .inv .2) (put .before .before .loop-test .left) in
+    (put .put-header .ensures ∙ e .0, e .1)
 
 pub run-spec : {M : Type 1} → statement M
 run-spec =
@@ -94,6 +101,7 @@ run-spec =
     add-place
     loop-less
     loop-again
+    put-header-requires
     same-length-3
     same-length-4
     returns-2)

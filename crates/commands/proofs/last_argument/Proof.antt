@@ -1,7 +1,7 @@
 -- `commands::last_argument` meets its contract. Assumes nothing.
 use mathlib.Core.Path.{sym, _∙_}
 use borrow.Author.Needs.{needs}
-use Rattle.format.specs.Batch.{lastArgument}
+use Rattle.encoding.specs.Batch.{lastArgument}
 use Rattle.commands.proofs.last_argument.Statement.{statement}
 use Rattle.commands.proofs.last_argument.Tie as tie
 

@@ -3,7 +3,7 @@
 use mathlib.Core.Path.{sym, _∙_}
 use Prim.Native.Nat.{_-_}
 use borrow.Author.Needs.{needs}
-use Rattle.format.specs.Batch.{mostCommands}
+use Rattle.encoding.specs.Batch.{mostCommands}
 use Rattle.commands.proofs.Scanning.{Scanning, scan-starts, scan-ends, scan-over, scan-fault, scan-good}
 use Rattle.commands.proofs.scan.Statement.{statement}
 use Rattle.commands.proofs.scan.Tie as tie

@@ -1,8 +1,7 @@
 -- `pool::audit` meets its contract: its code is that of what the audit learns. Assumes nothing.
 use mathlib.Core.Path.{_∙_, ap}
 use borrow.Author.Needs.{needs}
-use Rattle.pool.specs.Results.{auditedCode}
-use Rattle.pool.proofs.Audits.{audit-code}
+use Rattle.format.specs.Audit.{auditedCode, auditCode}
 use Rattle.pool.proofs.audit.Statement.{statement}
 use Rattle.pool.proofs.audit.Tie as tie
 
@@ -13,7 +12,8 @@ code-requires : tie.Need-code-requires
 code-requires c κs = search needs
 
 returns : tie.Need-returns
-returns c = c .code .ensures ∙ (ap auditedCode (c .before .examine .ensures) ∙ audit-code _)
+unfolding auditCode
+returns c = c .code .ensures ∙ ap auditedCode (c .before .examine .ensures)
 
 pub audit-spec : {M : Type 1} → statement M
 audit-spec =

@@ -1,11 +1,12 @@
 -- `report::figures` meets its contract: no root, no tree; else the two walks begin at the root, and what they answer are the numbers of
 -- the tree there, by the laws of Reports.antt. Assumes nothing.
-use mathlib.Core.Path.{ap, _∙_}
-use Prim.Native.Nat.{ℕ, _+_, _/_}
+use mathlib.Core.Path.{sym, ap, _∙_}
 use native.Mathlib.Omega.{arith}
 use borrow.Author.Needs.{needs}
-use Rattle.pool.proofs.Audits.{rules-are-kept}
-use Rattle.report.proofs.Reports.{Ready, none-there, some-there, ready-standing, ready-bound-fits, ready-report}
+use Rattle.tree.specs.State.{report}
+use Rattle.format.proofs.AuditCases.{rules-are-kept}
+use Rattle.pool.proofs.Standing.{Rooted, no-root, root-standing}
+use Rattle.report.proofs.Reports.{root-bound-fits, root-report}
 use Rattle.report.proofs.figures.Statement.{statement}
 use Rattle.report.proofs.figures.Tie as tie
 
@@ -13,41 +14,36 @@ zeros-requires : tie.Need-zeros-requires
 zeros-requires c κs = search needs
 
 returns : tie.Need-returns
+unfolding report
 returns c =
     let kept = rules-are-kept _ (λ i. omega (arith, c .before .before .before .shared-slice-known .given i)) (c .before .before .before .before .pre) in
-    c .zeros .ensures ∙ none-there kept (c .before .if1 .taken)
+    c .zeros .ensures ∙ sym (ap report (no-root kept (c .before .if1 .taken)))
 
 -- Beyond the first test a tree stands at the root.
-ready : (c : tie.Else1) → Ready (c .before .before .before .args .pool .now) (c .before .before .before .args .h) (c .before .before .before .args .level)
-ready c =
-    let kept = rules-are-kept _ (λ i. omega (arith, c .before .before .shared-slice-known .given i)) (c .before .before .before .pre) in
-    some-there kept (c .if1 .left)
+rooted : (c : tie.Else1) → Rooted (c .before .before .before .args .pool .now) (c .before .before .before .args .h) (c .before .before .before .args .level)
+rooted c = root-standing (rules-are-kept _ (λ i. omega (arith, c .before .before .shared-slice-known .given i)) (c .before .before .before .pre)) (c .if1 .left)
 
-slots-in-requires : tie.Need-slots-in-requires
-slots-in-requires c κs = search needs
-
-cast-left : tie.Need-cast-left
-cast-left c = omega (arith, c .slots-in .ensures, ready (c .before) .few)
-
-add-left : tie.Need-add-left
-add-left c = omega (arith, c .slots-in .ensures, ready (c .before) .few)
+allowance-requires : tie.Need-allowance-requires
+allowance-requires c κs = search needs
 
 below-other-requires : tie.Need-below-other-requires
-below-other-requires c κs = ready-standing (ready (c .before)) (ap (λ (m : ℕ). (m + 1) / 2) (c .slots-in .ensures))
+below-other-requires c κs = rw (c .allowance .ensures) (rooted (c .before) .standing)
 
 over-requires : tie.Need-over-requires
-over-requires c κs = ready-standing (ready (c .before .before)) (ap (λ (m : ℕ). (m + 1) / 2) (c .before .slots-in .ensures))
+over-requires c κs = rw (c .before .allowance .ensures) (rooted (c .before .before) .standing)
 
 cast-n : tie.Need-cast-n
 cast-n c = search needs
 
 step-bound-requires : tie.Need-step-bound-requires
-step-bound-requires c κs = ready-bound-fits (ready (c .before .before .before .before)) (c .before .before .below-other .ensures) (c .before .over .ensures)
+step-bound-requires c κs =
+    let left = c .before .before .before .allowance .ensures in
+    root-bound-fits (rooted (c .before .before .before .before)) (rw left at (c .before .before .below-other .ensures)) (rw left at (c .before .over .ensures))
 
 returns-2 : tie.Need-returns-2
 returns-2 c =
-    ready-report (ready (c .before .before .before .before .before)) (c .before .before .before .below-other .ensures) (c .before .before .over .ensures)
-    (c .step-bound .ensures)
+    let left = c .before .before .before .before .allowance .ensures in
+    root-report (rooted (c .before .before .before .before .before)) (rw left at (c .before .before .before .below-other .ensures)) (rw left at (c .before .before .over .ensures)) (c .step-bound .ensures)
 
 pub figures-spec : {M : Type 1} → statement M
 figures-spec =
@@ -55,9 +51,7 @@ figures-spec =
     (tie.spec
     zeros-requires
     returns
-    slots-in-requires
-    cast-left
-    add-left
+    allowance-requires
     below-other-requires
     over-requires
     cast-n

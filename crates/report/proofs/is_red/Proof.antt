@@ -1,6 +1,6 @@
 -- `report::is_red` meets its contract: it tests the weight that the words of slot s give. Assumes nothing.
 use borrow.Author.Needs.{needs}
-use Rattle.report.proofs.Edges.{red-test}
+use Rattle.tree.proofs.Tests.{red-test}
 use Rattle.report.proofs.is_red.Statement.{statement}
 use Rattle.report.proofs.is_red.Tie as tie
 

@@ -1,7 +1,7 @@
 -- `pool::is_slot` meets its contract, test by test. Assumes nothing.
 use mathlib.Core.Path.{sym}
 use borrow.Author.Needs.{needs}
-use Rattle.slots.proofs.Lengths.{slot-zero, slot-from-one}
+use Rattle.format.proofs.RulesSlots.{slot-zero, slot-from-one}
 use Rattle.slots.proofs.is_slot.Statement.{statement}
 use Rattle.slots.proofs.is_slot.Tie as tie
 

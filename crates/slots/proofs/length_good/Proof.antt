@@ -3,7 +3,7 @@ use mathlib.Core.Path.{sym}
 use native.Mathlib.Omega.{arith}
 use borrow.Author.Needs.{needs}
 use Rattle.format.specs.Words.{slotsIn}
-use Rattle.slots.proofs.Lengths.{length-other, length-none, length-some}
+use Rattle.format.proofs.RulesSlots.{length-other, length-none, length-some}
 use Rattle.slots.proofs.length_good.Statement.{statement}
 use Rattle.slots.proofs.length_good.Tie as tie
 
@@ -24,7 +24,7 @@ returns c = sym (length-other _ (rw (c .before .slots-in .ensures) at (c .if1 .t
 returns-2 : tie.Need-returns-2
 returns-2 c =
     let e = c .before .before .slots-in .ensures in
-    sym (length-none _ (rw e at (c .before .if1 .left)) (rw e at (c .if2 .taken)))
+    sym (length-none _ (rw e at (c .before .if1 .left)) (omega (arith, rw e at (c .if2 .taken))))
 
 cast-result : tie.Need-cast-result
 cast-result c = search needs
@@ -32,7 +32,7 @@ cast-result c = search needs
 returns-3 : tie.Need-returns-3
 returns-3 c =
     let e = c .before .before .slots-in .ensures in
-    rw e (sym (length-some _ (rw e at (c .before .if1 .left)) (rw e at (c .if2 .left))))
+    rw e (sym (length-some _ (rw e at (c .before .if1 .left)) (omega (arith, rw e at (c .if2 .left)))))
 
 pub length-good-spec : {M : Type 1} → statement M
 length-good-spec =

@@ -1,0 +1,6 @@
+pub mod OperationNumbers
+pub mod Endings
+pub mod Performs
+pub mod AnswerWords
+pub mod Worked
+pub mod Decides

@@ -1,0 +1,106 @@
+-- What each answer of the audit says of the words, for all who begin with it: 1 and 2 by their causes (`length-wrong`,
+-- `rules-are-broken`), and that words which pass show a sound State under the header that the audit answers (`rules-are-kept`). The code
+-- is 0 exactly where the words show one (`audit-exact`). Assumes nothing.
+use mathlib.Core.Path.{_≡_, refl, sym, _∙_}
+use mathlib.Core.Logic.{_↔_, _≢_}
+use mathlib.Core.Bool.{Bool, true, false, false≢true}
+use mathlib.Core.List.{List}
+use Prim.Native.Nat.{ℕ, _<_, _^_}
+use native.Mathlib.Omega.{arith}
+use lib.ListN.{getD}
+use Rattle.tree.specs.State.{State, levelTop, Sound}
+use Rattle.format.specs.declared.Header.{Header}
+use Rattle.format.specs.declared.Audited.{Audited}
+use Rattle.format.specs.declared.Audited.the-variants.{Length, Broken, Passed}
+use Rattle.format.specs.Words.{headerOf, lengthGood}
+use Rattle.format.specs.Shows.{Shows, PoolShows}
+use Rattle.format.specs.Audit.{rulesHold, stateOf, audited, auditedCode, auditCode}
+use Rattle.format.proofs.Rules.{rules-show, show-rules}
+
+-- every word is a 32-bit number
+abbrev pub Words32 : List ℕ → Type 0
+Words32 p = (i : ℕ) → getD p i 0 < 2 ^ 32
+
+pub data Case (p : List ℕ) : Audited → Type 0 where
+  wrong-length : lengthGood p ≡ false → Case p Length
+  rules-broken : lengthGood p ≡ true → rulesHold p ≡ false → Case p Broken
+  rules-kept : lengthGood p ≡ true → rulesHold p ≡ true → Case p (Passed (headerOf p) (levelTop ((stateOf p) .top)))
+
+module _ (p : List ℕ) where
+  pub audited-case : Case p (audited p)
+  unfolding audited
+  audited-case = go (lengthGood p) (rulesHold p) refl refl
+    where
+      go : (a b : Bool) → lengthGood p ≡ a → rulesHold p ≡ b → Case p (audited p)
+      go false b e f = rw (e, audited) (wrong-length e)
+      go true false e f = rw (e, f, audited) (rules-broken e f)
+      go true true e f = rw (e, f, audited) (rules-kept e f)
+
+  -- the other way round
+  pub audited-length : lengthGood p ≡ false → audited p ≡ Length
+  unfolding audited
+  audited-length h = rw (h, audited)
+
+  pub audited-broken : lengthGood p ≡ true → rulesHold p ≡ false → audited p ≡ Broken
+  unfolding audited
+  audited-broken h e = rw (h, e, audited)
+
+  pub audited-kept : lengthGood p ≡ true → rulesHold p ≡ true → audited p ≡ Passed (headerOf p) (levelTop ((stateOf p) .top))
+  unfolding audited
+  audited-kept h e = rw (h, e, audited)
+
+  pub audited-passed : {S : State} → Sound S → PoolShows p S → audited p ≡ Passed (headerOf p) (levelTop (S .top))
+  audited-passed sound shows = let g = show-rules sound shows in audited-kept (g .0) (g .1) ∙ rw (g .2)
+
+-- What a caller knows of the words by the answer.
+case-length : {p : List ℕ} → Case p Length → lengthGood p ≡ false
+case-length (wrong-length h) = h
+
+pub length-wrong : (p : List ℕ) → audited p ≡ Length → lengthGood p ≡ false
+length-wrong p e = case-length (rw e at (audited-case p))
+
+case-broken : {p : List ℕ} → Case p Broken → (lengthGood p ≡ true) × (rulesHold p ≡ false)
+case-broken (rules-broken h f) = (h, f)
+
+pub rules-are-broken : (p : List ℕ) → audited p ≡ Broken → (lengthGood p ≡ true) × (rulesHold p ≡ false)
+rules-are-broken p e = case-broken (rw e at (audited-case p))
+
+pub record Kept (p : List ℕ) (h : Header) (l : ℕ) : Type 0 where
+  pub length-good : lengthGood p ≡ true
+  pub rules-hold : rulesHold p ≡ true
+  pub header-is : h ≡ headerOf p
+  pub level-is : l ≡ levelTop ((stateOf p) .top)
+  pub sound : Sound (stateOf p)
+  pub shows : Shows h p (stateOf p)
+
+case-kept : {p : List ℕ} {h : Header} {l : ℕ} → Words32 p → Case p (Passed h l) → Kept p h l
+case-kept {p} words (rules-kept g f) =
+    let S = rules-show (headerOf p) p g f words in
+    record { length-good = g; rules-hold = f; header-is = refl; level-is = refl; sound = S .0; shows = S .1 }
+
+pub rules-are-kept : (p : List ℕ) {h : Header} {l : ℕ} → Words32 p → audited p ≡ Passed h l → Kept p h l
+rules-are-kept p words e = case-kept words (rw e at (audited-case p))
+
+-- The same by the code.
+pub code-kept : (p : List ℕ) → Words32 p → auditCode p ≡ 0 → Kept p (headerOf p) (levelTop ((stateOf p) .top))
+unfolding auditCode
+code-kept p words = go (audited-case p)
+  where
+    go : {r : Audited} → Case p r → auditedCode r ≡ 0 → Kept p (headerOf p) (levelTop ((stateOf p) .top))
+    go (wrong-length h) e = absurd (omega arith)
+    go (rules-broken h f) e = absurd (omega arith)
+    go (rules-kept h f) e = case-kept words (rules-kept h f)
+
+pub code-broken : (p : List ℕ) → lengthGood p ≡ true → auditCode p ≢ 0 → rulesHold p ≡ false
+unfolding auditCode
+code-broken p l = go (audited-case p)
+  where
+    go : {r : Audited} → Case p r → auditedCode r ≢ 0 → rulesHold p ≡ false
+    go (wrong-length h) n = absurd (false≢true (sym h ∙ l))
+    go (rules-broken h f) n = f
+    go (rules-kept h f) n = absurd (n refl)
+
+-- Code 0 exactly when the words show a sound State. (They show no other: `shows-one`.)
+pub audit-exact : (p : List ℕ) → Words32 p → (auditCode p ≡ 0) ↔ ((S : State) × Sound S × PoolShows p S)
+unfolding auditCode
+audit-exact p words = (λ e. let k = code-kept p words e in (stateOf p, k .sound, k .shows), λ g. rw (audited-passed p (g .1) (g .2)))

@@ -1,0 +1,23 @@
+-- Commands on words, the header given by value: what one leaves before its header is written, and what an entry of a pool leaves, which
+-- reads the header at the beginning and writes it at the end.
+use mathlib.Core.List.{List}
+use Prim.Native.Nat.{ℕ}
+use Rattle.tree.specs.declared.Answer.{Answer}
+use Rattle.format.specs.declared.Header.{Header}
+use Rattle.format.specs.declared.Performed.{Performed}
+use Rattle.format.specs.Words.{putHeader}
+
+-- the words, and the answer with the header
+pub record Written : Type 0 where
+  pub words : List ℕ
+  pub result : Performed
+
+abbrev pub performed : Answer → Header → Performed
+performed a h = record { answer = a; header = h }
+
+abbrev pub written : List ℕ → Answer → Header → Written
+written p a h = record { words = p; result = performed a h }
+
+-- the pool once the header is written
+abbrev pub wordsAfter : Written → List ℕ
+wordsAfter w = putHeader (w .words) (w .result .header)

@@ -1,0 +1,49 @@
+/* These calls write no pool word: searches, refused commands, a settle with nothing to do, and calls refused whole, which write no answer
+ * word either. The pool (and there the answers) lie in a page that may only be read, and a write would end the test by a signal. */
+#define _DEFAULT_SOURCE
+#include "../include/chromatic.h"
+#include <stdio.h>
+#include <string.h>
+#include <sys/mman.h>
+#include <unistd.h>
+
+static int failed = 0;
+
+static void check(int holds, const char *what) {
+    if (!holds) {
+        printf("writes_nothing.c: %s\n", what);
+        failed = 1;
+    }
+}
+
+int main(void) {
+    const size_t page = (size_t)sysconf(_SC_PAGESIZE), words = CHROMATIC_POOL_WORDS(7);
+    uint32_t *pool = mmap(NULL, page, PROT_READ | PROT_WRITE, MAP_PRIVATE | MAP_ANONYMOUS, -1, 0);
+    uint32_t *answers = mmap(NULL, page, PROT_READ | PROT_WRITE, MAP_PRIVATE | MAP_ANONYMOUS, -1, 0);
+    const uint8_t filling[] = {CHROMATIC_INSERT, 10, CHROMATIC_INSERT, 20, CHROMATIC_INSERT, 30, CHROMATIC_INSERT, 40, CHROMATIC_SETTLE, 99};
+    const uint8_t asking[] = {CHROMATIC_SEARCH, 10, CHROMATIC_SEARCH, 15, CHROMATIC_INSERT, 10, CHROMATIC_INSERT, 15, CHROMATIC_DELETE, 15,
+                              CHROMATIC_STEP, 0, 1, CHROMATIC_STEP, 1, 9, CHROMATIC_STEP, 1, 1, CHROMATIC_SETTLE, 9};
+    const uint32_t codes[] = {CHROMATIC_GOOD, CHROMATIC_KEY_ABSENT, CHROMATIC_KEY_PRESENT, CHROMATIC_NO_ROOM, CHROMATIC_KEY_ABSENT,
+                              CHROMATIC_NO_INNER_NODE, CHROMATIC_NO_KIND, CHROMATIC_CONDITION_FALSE, CHROMATIC_GOOD};
+    const size_t asked = sizeof codes / sizeof codes[0], room = asked * CHROMATIC_ANSWER_WORDS;
+
+    if (pool == MAP_FAILED || answers == MAP_FAILED) {
+        printf("writes_nothing.c: no pages\n");
+        return 1;
+    }
+    check(chromatic_prepare(pool, words) == CHROMATIC_GOOD, "prepare");
+    check(chromatic_batch(pool, words, filling, sizeof filling, answers, room) == 0, "the pool is filled");
+    check(mprotect(pool, page, PROT_READ) == 0, "the pool may only be read");
+    check(chromatic_batch(pool, words, asking, sizeof asking, answers, room) == 0, "commands that change nothing");
+    for (size_t i = 0; i < asked; i++) check(answers[CHROMATIC_ANSWER_WORDS * i] == codes[i], "its code");
+    check(mprotect(answers, page, PROT_READ) == 0, "the answers may only be read");
+    check(CHROMATIC_CODE(chromatic_batch(pool, words - 1, asking, sizeof asking, answers, room)) == CHROMATIC_WRONG_LENGTH, "refused with 1");
+    check(CHROMATIC_CODE(chromatic_batch(pool, words, asking, sizeof asking - 1, answers, room)) == CHROMATIC_BAD_COMMAND, "refused with 3");
+    check(CHROMATIC_CODE(chromatic_batch(pool, words, asking, sizeof asking, answers, room - 1)) == CHROMATIC_FEW_ANSWERS, "refused with 4");
+    check(mprotect(pool, page, PROT_READ | PROT_WRITE) == 0, "the pool may be written");
+    pool[2] += 1;
+    check(mprotect(pool, page, PROT_READ) == 0, "the pool may only be read");
+    check(CHROMATIC_CODE(chromatic_batch(pool, words, asking, sizeof asking, answers, room)) == CHROMATIC_RULES_BROKEN, "refused with 2");
+    check(chromatic_prepare(pool, words - 1) == CHROMATIC_WRONG_LENGTH, "prepare refused");
+    return failed;
+}
