@@ -40,12 +40,16 @@ module _ {p : List ℕ} {h : Header} {l : ℕ} (R : Rooted p h l) where
     pub root-bound-fits : BoundFits (h .nodes) (heavy .distance) (reds .number) (reds .distance)
     root-bound-fits = rw (R .nodes-are, reds-are, heavy-are) (root-fit .way-fits)
 
+    -- N again, as the walk counted it
+    pub counted-nodes : heavy .nodes ≡ h .nodes
+    counted-nodes = rw (heavy-are, R .nodes-are)
+
     -- the seven numbers
-    pub root-report : {b : ℕ} → b ≡ (3 * h .nodes + 1) * heavy .distance + 2 * h .nodes * reds .number + reds .distance
-        → record { nodes = h .nodes; level = l; overweighted = heavy .number; conflicts = reds .number; «over_distance» = heavy .distance; «red_distance» = reds .distance; bound = b }
+    pub root-report : {n b : ℕ} → n ≡ h .nodes → b ≡ (3 * h .nodes + 1) * heavy .distance + 2 * h .nodes * reds .number + reds .distance
+        → record { nodes = n; level = l; overweighted = heavy .number; conflicts = reds .number; «over_distance» = heavy .distance; «red_distance» = reds .distance; bound = b }
         ≡ report ((stateOf p) .top)
     unfolding report bound
-    root-report e = rw (e, R .top-is, R .nodes-are, R .level-is, reds-are, heavy-are)
+    root-report d e = rw (d, e, R .top-is, R .nodes-are, R .level-is, reds-are, heavy-are)
 
 -- An index that is 0 or past the last number names no number.
 pub figure-other : (i : ℕ) (f : Figures) → (i ≡ 0) ⊎ (length (figures f) < i) → figureAt i f ≡ 0

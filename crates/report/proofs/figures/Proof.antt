@@ -6,7 +6,7 @@ use borrow.Author.Needs.{needs}
 use Rattle.tree.specs.State.{report}
 use Rattle.format.proofs.AuditCases.{rules-are-kept}
 use Rattle.pool.proofs.Standing.{Rooted, no-root, root-standing}
-use Rattle.report.proofs.Reports.{root-bound-fits, root-report}
+use Rattle.report.proofs.Reports.{root-bound-fits, counted-nodes, root-report}
 use Rattle.report.proofs.figures.Statement.{statement}
 use Rattle.report.proofs.figures.Tie as tie
 
@@ -43,7 +43,10 @@ step-bound-requires c κs =
 returns-2 : tie.Need-returns-2
 returns-2 c =
     let left = c .before .before .before .before .allowance .ensures in
-    root-report (rooted (c .before .before .before .before .before)) (rw left at (c .before .before .before .below-other .ensures)) (rw left at (c .before .before .over .ensures)) (c .step-bound .ensures)
+    let R = rooted (c .before .before .before .before .before) in
+    let A = rw left at (c .before .before .before .below-other .ensures) in
+    let B = rw left at (c .before .before .over .ensures) in
+    root-report R A B (omega (arith, counted-nodes R A B)) (c .step-bound .ensures)
 
 pub figures-spec : {M : Type 1} → statement M
 figures-spec =
