@@ -40,25 +40,25 @@ pub data Parsed (bytes : List ℕ) (i : ℕ) : Reading → Type 0 where
   wrong-operation : {j : ℕ} → number bytes i ≡ Wrong j → Parsed bytes i (Fault j)
   unknown : {n next : ℕ} → number bytes i ≡ Read n next → which n ≡ Unknown → Parsed bytes i (Fault i)
   wrong-first : {n next j : ℕ} {op : Operation} → number bytes i ≡ Read n next → which n ≡ Known op → number bytes next ≡ Wrong j → Parsed bytes i (Fault j)
-  wrong-last : {n next a mid j : ℕ} {op : Operation} → number bytes i ≡ Read n next → which n ≡ Known op → number bytes next ≡ Read a mid
-      → number bytes mid ≡ Wrong j → Parsed bytes i (Fault j)
-  one-argument : {n next a end : ℕ} {op : Operation} → number bytes i ≡ Read n next → which n ≡ Known op → number bytes next ≡ Read a end
-      → Parsed bytes i (Next (command op a 0) end)
-  two-arguments : {n next a mid b end : ℕ} {op : Operation} → number bytes i ≡ Read n next → which n ≡ Known op → number bytes next ≡ Read a mid
-      → number bytes mid ≡ Read b end → Parsed bytes i (Next (command op a b) end)
+  wrong-last : {n next a mid j : ℕ} {op : Operation} → number bytes i ≡ Read n next → which n ≡ Known op → arguments op ≢ 1
+      → number bytes next ≡ Read a mid → number bytes mid ≡ Wrong j → Parsed bytes i (Fault j)
+  one-argument : {n next a end : ℕ} {op : Operation} → number bytes i ≡ Read n next → which n ≡ Known op → arguments op ≡ 1
+      → number bytes next ≡ Read a end → Parsed bytes i (Next (command op a 0) end)
+  two-arguments : {n next a mid b end : ℕ} {op : Operation} → number bytes i ≡ Read n next → which n ≡ Known op → arguments op ≢ 1
+      → number bytes next ≡ Read a mid → number bytes mid ≡ Read b end → Parsed bytes i (Next (command op a b) end)
 
 module _ (bytes : List ℕ) (i : ℕ) where
-  last-parsed : {n next a mid : ℕ} {op : Operation} → number bytes i ≡ Read n next → which n ≡ Known op → number bytes next ≡ Read a mid
-      → (x : Number) → number bytes mid ≡ x → Parsed bytes i (lastArgument op a x)
+  last-parsed : {n next a mid : ℕ} {op : Operation} → number bytes i ≡ Read n next → which n ≡ Known op → arguments op ≢ 1
+      → number bytes next ≡ Read a mid → (x : Number) → number bytes mid ≡ x → Parsed bytes i (lastArgument op a x)
   unfolding lastArgument
-  last-parsed o k f (Read b end) e = two-arguments o k f e
-  last-parsed o k f (Wrong j) e = wrong-last o k f e
+  last-parsed o k h f (Read b end) e = two-arguments o k h f e
+  last-parsed o k h f (Wrong j) e = wrong-last o k h f e
 
   first-parsed : {n next : ℕ} (op : Operation) → number bytes i ≡ Read n next → which n ≡ Known op → (x : Number) → number bytes next ≡ x
       → Parsed bytes i (argumentsAt bytes op next)
   first-parsed {next = next} op o k (Read a mid) e = same-or-not (arguments op) 1
-      (λ h. rw (only bytes op next a mid h e) (one-argument o k e))
-      (λ h. rw (two bytes op next a mid h e) (last-parsed o k e (number bytes mid) refl))
+      (λ h. rw (only bytes op next a mid h e) (one-argument o k h e))
+      (λ h. rw (two bytes op next a mid h e) (last-parsed o k h e (number bytes mid) refl))
   first-parsed {next = next} op o k (Wrong j) e = rw (first-wrong bytes op next j e) (wrong-first o k e)
 
   meant-parsed : {n next : ℕ} → number bytes i ≡ Read n next → (w : Which) → which n ≡ w → Parsed bytes i (meantAt bytes i next w)
@@ -81,8 +81,8 @@ operation-short bytes i n next {op} o k = number-short bytes i o (omega (arith, 
 
 parsed-place : {bytes : List ℕ} {i : ℕ} {c : Command} {next : ℕ} → Parsed bytes i (Next c next)
     → (i < next) × (next ≤ length bytes) × (next ≤ i + 11)
-parsed-place {bytes} {i} (one-argument {n = n} {next = mid} o k f) = omega (arith, operation-short bytes i n mid o k, number-place bytes mid f)
-parsed-place {bytes} {i} (two-arguments {n = n} {next = first} {mid = mid} o k f g) =
+parsed-place {bytes} {i} (one-argument {n = n} {next = mid} o k a f) = omega (arith, operation-short bytes i n mid o k, number-place bytes mid f)
+parsed-place {bytes} {i} (two-arguments {n = n} {next = first} {mid = mid} o k a f g) =
     omega (arith, operation-short bytes i n first o k, number-place bytes first f, number-place bytes mid g)
 
 module _ (bytes : List ℕ) (i : ℕ) where

@@ -3,3 +3,5 @@ pub mod Reading
 pub mod Scanning
 pub mod Running
 pub mod Decides
+pub mod Faults
+pub mod Written

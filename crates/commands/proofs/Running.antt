@@ -124,8 +124,8 @@ scanned-bad (badAt j) e = ap badAt (cc)
 
 -- Arguments read from bytes are "at most 4,294,967,295".
 parsed-small : {bytes : List ℕ} {i : ℕ} {c : Command} {next : ℕ} → Bytes bytes → Parsed bytes i (Next c next) → c .first < keyEnd
-parsed-small {bytes} b (one-argument {next = mid} o k f) = omega (arith, number-value bytes mid b f)
-parsed-small {bytes} b (two-arguments {next = mid} o k f g) = omega (arith, number-value bytes mid b f)
+parsed-small {bytes} b (one-argument {next = mid} o k a f) = omega (arith, number-value bytes mid b f)
+parsed-small {bytes} b (two-arguments {next = mid} o k a f g) = omega (arith, number-value bytes mid b f)
 
 stand-small : {bytes : List ℕ} {i : ℕ} {cs : List Command} → Bytes bytes → StandFrom bytes i cs → AllSmall cs
 unfolding AllSmall

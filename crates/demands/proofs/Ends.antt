@@ -2,8 +2,8 @@
 -- A call's code is n exactly when 01's cause for n is there (`code-exactly`, and code by code `code-0` to `code-4`), so it is one of 0
 -- to 4; a call that is refused whole changes no word of the pool or the answers (`refused-keeps`), and its number is 0, or the place of
 -- the bad command (`call-number`). Each command of a call that is not refused fills its own two answer words (`command-words`), and
--- later words stay (`later-words`); a refused command changes no pool word, and the others run and answer as without it
--- (`refused-command`). After the call the pool passes the audit (`passes-after`).
+-- later words stay (`later-words`); a refused command changes no pool word (`refused-command`; Striking.antt says that the others run and
+-- answer as without it). Before the call and after it the pool passes the audit (`ran-passing`, `passes-after`).
 -- Why: the definition asks for the causes in the order 1, 3, 4, 2, and each refusal gives back what it was lent; a command refused
 -- leaves the State as it was (crate tree). Assumes nothing.
 use mathlib.Core.Path.{_≡_, refl, ap, sym, _∙_}
@@ -13,11 +13,11 @@ use mathlib.Core.List.{List, [], _∷_, _++_}
 use lib.ListN.{length, getD}
 use native.Mathlib.Omega.{arith}
 use Prim.Native.Nat.{ℕ, zero, suc, _+_, _*_, _≤_, _<_}
-use Rattle.tree.specs.State.{State, Sound}
+use Rattle.tree.specs.State.{Sound}
 use Rattle.encoding.specs.declared.Command.{Command}
 use Rattle.format.specs.Words.{headerOf, lengthGood, wordsOf}
 use Rattle.format.specs.Audit.{rulesHold, stateOf, auditCode}
-use Rattle.encoding.specs.Batch.{commands, badAt, readBatch, perform, answersOf, runAll, Call, called, refused, batch}
+use Rattle.encoding.specs.Batch.{commands, badAt, readBatch, perform, runAll, Call, called, refused, batch}
 use Rattle.format.proofs.Rules.{rules-show}
 use Rattle.format.proofs.AuditCases.{Words32}
 use Rattle.set.specs.Set.{Passing}
@@ -25,7 +25,7 @@ use Rattle.set.proofs.Promises.{passing-audited}
 use Rattle.encoding.specs.Numbers.{Bytes}
 use Rattle.encoding.proofs.Endings.{Ending, length-refused, bad-command, few-answers, rules-refused, ran, ending, length-ends, bad-ends, few-ends, broken-ends, ran-ends}
 use Rattle.encoding.proofs.Performs.{run-sound, small-append, perform-kept, refused-number}
-use Rattle.encoding.proofs.AnswerWords.{run-append, answers-append, later-word, filled-length}
+use Rattle.encoding.proofs.AnswerWords.{run-append, later-word, filled-length}
 use Rattle.demands.specs.Calls.{poolAfter}
 use Rattle.demands.proofs.Runs.{Split, split-words}
 use Rattle.demands.proofs.Called.{call-ran}
@@ -112,15 +112,10 @@ module _ (p bytes out : List ℕ) where
       go (rules-refused l e h r) = record { place = λ z. absurd (omega arith); none = λ z. refl }
       go (ran l e h r) = record { place = λ z. absurd (omega arith); none = λ z. refl }
 
--- The command c, between the commands `before` and `rest` of a call, changed no pool word, and the call is what it is without c but for
--- c's own two answer words, of which the second is 0.
-pub record AsWithout (p bytes out : List ℕ) (before : List Command) (c : Command) (rest : List Command) : Type 0 where
+-- The command c, after the commands `before` of a call, changed no pool word, and of its own two answer words the second is 0.
+pub record ChangedNothing (p bytes out : List ℕ) (before : List Command) (c : Command) : Type 0 where
   pub pool-stays : poolAfter (before ++ (c ∷ [])) p ≡ poolAfter before p
-  pub pool-as-without : (batch p bytes out) .pool ≡ poolAfter (before ++ rest) p
   pub number-none : getD ((batch p bytes out) .answers) (2 * length before + 1) 0 ≡ 0
-  pub answers-without : answersOf (before ++ rest) (stateOf p) ≡ answersOf before (stateOf p) ++ answersOf rest (runAll before (stateOf p))
-  pub answers-with : answersOf (before ++ (c ∷ rest)) (stateOf p)
-      ≡ answersOf before (stateOf p) ++ ((perform c (runAll before (stateOf p))) .answer ∷ answersOf rest (runAll before (stateOf p)))
 
 -- A call that is not refused, on a pool that passes the audit.
 module _ {p : List ℕ} (g : Passing p) (bytes out : List ℕ) (b : Bytes bytes) (given : (batch p bytes out) .code ≡ 0) where
@@ -140,10 +135,10 @@ module _ {p : List ℕ} (g : Passing p) (bytes out : List ℕ) (b : Bytes bytes)
     unfolding called
     command-words = rw (call-ran g bytes out b given read .call-is) (split-words before c rest (stateOf p) out)
 
-    -- "Codes 5 to 11 change no pool word", and a refused command "does not stop the rest".
+    -- "Codes 5 to 11 change no pool word." (That the rest goes on as without it: Striking.antt.)
     pub refused-command : 5 ≤ getD ((batch p bytes out) .answers) (2 * length before) 0 → getD ((batch p bytes out) .answers) (2 * length before) 0 ≤ 11
-        → AsWithout p bytes out before c rest
-    unfolding poolAfter runAll answersOf called
+        → ChangedNothing p bytes out before c
+    unfolding poolAfter runAll
     refused-command low high =
         let R = call-ran g bytes out b given read in
         let S = runAll before (stateOf p) in
@@ -152,17 +147,14 @@ module _ {p : List ℕ} (g : Passing p) (bytes out : List ℕ) (b : Bytes bytes)
         let kept : (perform c S) .after ≡ S = perform-kept c S sound (omega (arith, w .code-word)) (omega (arith, w .code-word)) in
         record {
           pool-stays = ap wordsOf (run-append before (c ∷ []) (stateOf p) ∙ kept);
-          pool-as-without = rw (R .call-is)
-              (ap wordsOf (run-append before (c ∷ rest) (stateOf p) ∙ (ap (runAll rest) kept ∙ sym (run-append before rest (stateOf p)))));
           number-none = w .number-word ∙ refused-number ((perform c S) .answer) (omega (arith, w .code-word)) (omega (arith, w .code-word));
-          answers-without = answers-append before rest (stateOf p);
-          answers-with = answers-append before (c ∷ rest) (stateOf p)
-              ∙ ap (λ (T : State). answersOf before (stateOf p) ++ ((perform c S) .answer ∷ answersOf rest T)) kept;
         }
 
--- After a call that is not refused the pool passes the audit.
+-- A call that is not refused had a pool that passes the audit ..
+pub ran-passing : (p bytes out : List ℕ) → Words32 p → (batch p bytes out) .code ≡ 0 → Passing p
+ran-passing p bytes out words given = let c = code-0 p bytes out .0 given in let g = rules-show (headerOf p) p (c .0) (c .2) words in (stateOf p, g .0, g .1)
+
+-- .. and leaves one.
 pub passes-after : (p bytes out : List ℕ) → Words32 p → Bytes bytes → (batch p bytes out) .code ≡ 0 → auditCode ((batch p bytes out) .pool) ≡ 0
 passes-after p bytes out words b given =
-    let c = code-0 p bytes out .0 given in
-    let g = rules-show (headerOf p) p (c .0) (c .2) words in
-    passing-audited (call-ran (stateOf p, g .0, g .1) bytes out b given (c .1 .1) .passing)
+    passing-audited (call-ran (ran-passing p bytes out words given) bytes out b given (code-0 p bytes out .0 given .1 .1) .passing)

@@ -1,11 +1,12 @@
--- Demand 2's last sentence. After prepare and any number of batch calls, with any bytes and any answer words, refused calls, steps and
--- settles among them, the set has exactly the keys that were inserted with code 0 and not since deleted with code 0 (`history`,
--- `history-keys`); search finds exactly those (`history-search`), and so does a search command anywhere in a further call
--- (`search-tells`).
+-- Demand 2's last sentence. From any empty pool that passes the audit, a prepared one (`history-prepared`) or another, and after any
+-- number of batch calls, with any bytes and any answer words, refused calls, steps and settles among them, the set has exactly the keys
+-- that were inserted with code 0 and not since deleted with code 0 (`history`, `history-keys`); search finds exactly those
+-- (`history-search`), and so does a search command anywhere in a further call (`search-tells`). From any pool that passes the audit it
+-- has these, and of the keys that were there those not since deleted with code 0 (`history-from`, `history-from-keys`, and so on).
 -- Why: an insert with code 0 adds its key and no other, a delete with code 0 takes its key and no other, and nothing else moves a key
 -- (crate tree); so after each command the set is what the log tells. Assumes nothing.
 use mathlib.Core.Path.{_≡_, refl, ap, sym, _∙_}
-use mathlib.Core.Logic.{_↔_, _≢_}
+use mathlib.Core.Logic.{_↔_, _≢_, inl, inr}
 use mathlib.Core.Bool.{Bool, true, false}
 use mathlib.Core.List.{List, [], _∷_, _++_}
 use lib.ListN.{length, getD}
@@ -28,16 +29,16 @@ use Rattle.encoding.specs.Operations.{operationNumber}
 use Rattle.format.specs.Audit.{stateOf}
 use Rattle.encoding.specs.Batch.{commands, readBatch, operation, perform, runAll, batch}
 use Rattle.encoding.proofs.Performs.{AllSmall, perform-sound, run-sound, small-append}
-use Rattle.format.specs.Words.{lengthGood}
+use Rattle.format.specs.Words.{headerOf, lengthGood}
 use Rattle.pool.specs.Results.{prepareCode, preparedWords}
 use Rattle.updates.specs.Updating.{searchAnswer}
 use Rattle.set.specs.Set.{Passing, member}
 use Rattle.tree.proofs.Moves.{settle-keeps-keys}
 use Rattle.set.proofs.Members.{member-shown}
 use Rattle.set.proofs.Passing.{passing-state}
-use Rattle.set.proofs.Promises.{prepare-passing, prepare-says, search-codes}
-use Rattle.demands.specs.Calls.{Entry, entries, logOf, Calls, no-call, then-call, tells, toldFrom, told, InsertedSince}
-use Rattle.demands.proofs.Told.{other-operation, other-key, other-code, tells-insert, tells-delete, told-append, told-exactly}
+use Rattle.set.proofs.Promises.{nodes-exact, empty-says, prepare-passing, prepare-says, search-codes}
+use Rattle.demands.specs.Calls.{Entry, entries, logOf, Calls, no-call, then-call, tells, toldFrom, told, InsertedSince, KeptOrInserted, SearchTells}
+use Rattle.demands.proofs.Told.{other-operation, other-key, other-code, tells-insert, tells-delete, told-append, told-from-exactly, told-exactly}
 use Rattle.demands.proofs.Runs.{entry, entriesOf}
 use Rattle.demands.proofs.Called.{Result, call-kept, call-did, call-result, call-ran, calls-passing}
 use Rattle.demands.proofs.Ends.{command-words}
@@ -110,7 +111,75 @@ calls-told {p} g (then-call {log} {q} calls bytes out b) x =
     call-told (calls-passing g calls) bytes out b x
     ∙ (ap (λ (n : ℕ). toldFrom x n (logOf q bytes out)) (calls-told g calls x) ∙ sym (told-append x (member x p) log (logOf q bytes out)))
 
--- "Prepare gives 0 or 1": with 0 the pool is prepared.
+-- From any pool that passes the audit, with its keys: a pool that is taken up again.
+module _ {p q : List ℕ} {log : List Entry} (g : Passing p) (calls : Calls p log q) where
+  pub history-from : (x : ℕ) → member x q ≡ toldFrom x (member x p) log
+  history-from = calls-told g calls
+
+  -- the same, as the sentence
+  pub history-from-keys : (x : ℕ) → (member x q ≡ 1) ↔ KeptOrInserted x (member x p ≡ 1) log
+  history-from-keys x = let k = told-from-exactly x (member x p) log in (λ h. k .0 (sym (history-from x) ∙ h), λ s. history-from x ∙ k .1 s)
+
+  pub history-passing : Passing q
+  history-passing = calls-passing g calls
+
+  -- The set's search, on the words that are left;
+  pub history-from-search : (x : ℕ) → SearchTells (toldFrom x (member x p) log) (codeOf (searchAnswer q x))
+  history-from-search x = rw (← history-from x) (let k = search-codes history-passing x in record { done-when = k .done-when; absent-when = k .absent-when })
+
+  -- and by what it answered on the words before: it finds x exactly when it did so then and no accepted delete came, or x was inserted since.
+  pub history-of-searches : (x : ℕ) → (codeOf (searchAnswer q x) ≡ 0) ↔ KeptOrInserted x (codeOf (searchAnswer p x) ≡ 0) log
+  history-of-searches x =
+      let now = search-codes history-passing x .done-when in
+      let then = search-codes g x .done-when in
+      let k = history-from-keys x in
+      (λ z. kept (then .1) (k .0 (now .0 z)), λ s. now .1 (k .1 (kept (then .0) s)))
+    where
+      kept : {A B : Type 0} → (A → B) → KeptOrInserted x A log → KeptOrInserted x B log
+      kept f (inl k) = inl (f (k .0), k .1)
+      kept f (inr s) = inr s
+
+  -- A search for x in a further call, after the commands `before` of that call: its code goes by what the log up to there tells of x.
+  module _ (bytes out : List ℕ) (b : Bytes bytes) (given : (batch q bytes out) .code ≡ 0) where
+    pub search-tells-from : (before : List Command) (c : Command) (rest : List Command) → readBatch bytes ≡ commands (before ++ (c ∷ rest))
+        → c .operation ≡ Search
+        → SearchTells (toldFrom (c .first) (member (c .first) p) (log ++ entries before ((batch q bytes out) .answers))) (getD ((batch q bytes out) .answers) (2 * length before) 0)
+    search-tells-from before c rest read op =
+        let x = c .first in
+        let R = call-ran history-passing bytes out b given read in
+        let S = runAll before (stateOf q) in
+        let small = small-append before (c ∷ rest) (R .small) .0 in
+        let w = command-words history-passing bytes out b given before c rest read in
+        let code-is : getD ((batch q bytes out) .answers) (2 * length before) 0 ≡ codeOf ((search x S) .answer) = w .code-word ∙ ap codeOf (searches c S op) in
+        let in-is : toldFrom x (member x p) (log ++ entries before ((batch q bytes out) .answers)) ≡ isIn x S =
+        ap (λ (l : List Entry). toldFrom x (member x p) (log ++ l)) (w .first-entries)
+        ∙ (told-append x (member x p) log (entriesOf before (stateOf q))
+        ∙ (ap (λ (n : ℕ). toldFrom x n (entriesOf before (stateOf q))) (sym (history-from x) ∙ member-state history-passing x)
+        ∙ sym (run-told x before (stateOf q) small (R .sound)))) in
+        let k = search-codes-state x S (run-sound before (stateOf q) small (R .sound)) in
+        rw (code-is, in-is) (record { done-when = k .done; absent-when = k .key-absent })
+
+-- From any empty pool that passes the audit: its header's N is 0. Its free chain may be any.
+module _ {p q : List ℕ} {log : List Entry} (g : Passing p) (none : (headerOf p) .nodes ≡ 0) (calls : Calls p log q) where
+  not-before : (x : ℕ) → member x p ≡ 0
+  not-before = empty-says g none .no-member
+
+  pub history : (x : ℕ) → member x q ≡ told x log
+  history x = rw (not-before x) at (history-from g calls x)
+
+  pub history-keys : (x : ℕ) → (member x q ≡ 1) ↔ InsertedSince x log
+  history-keys x = (λ h. told-exactly x log .0 (sym (history x) ∙ h), λ s. history x ∙ told-exactly x log .1 s)
+
+  pub history-search : (x : ℕ) → SearchTells (told x log) (codeOf (searchAnswer q x))
+  history-search x = rw (not-before x) at (history-from-search g calls x)
+
+  module _ (bytes out : List ℕ) (b : Bytes bytes) (given : (batch q bytes out) .code ≡ 0) where
+    pub search-tells : (before : List Command) (c : Command) (rest : List Command) → readBatch bytes ≡ commands (before ++ (c ∷ rest))
+        → c .operation ≡ Search
+        → SearchTells (told (c .first) (log ++ entries before ((batch q bytes out) .answers))) (getD ((batch q bytes out) .answers) (2 * length before) 0)
+    search-tells before c rest read op = rw (not-before (c .first)) at (search-tells-from g calls bytes out b given before c rest read op)
+
+-- "Prepare gives 0 or 1": with 0 the pool is prepared, and is such a pool.
 prepared-good : (w : List ℕ) → prepareCode w ≡ 0 → lengthGood w ≡ true
 unfolding prepareCode
 prepared-good w h = go (lengthGood w) refl
@@ -119,43 +188,11 @@ prepared-good w h = go (lengthGood w) refl
     go true e = e
     go false e = absurd (omega (arith, rw (e, prepareCode) at h))
 
--- After prepare.
-module _ (w : List ℕ) {q : List ℕ} {log : List Entry} (prepared : prepareCode w ≡ 0) (calls : Calls (preparedWords w) log q) where
-  pub history : (x : ℕ) → member x q ≡ told x log
-  history x =
-      let l = prepared-good w prepared in
-      calls-told (prepare-passing w l) calls x ∙ ap (λ (n : ℕ). toldFrom x n log) (prepare-says w l .no-member x)
+pub prepared-empty : (w : List ℕ) → prepareCode w ≡ 0 → Passing (preparedWords w) × ((headerOf (preparedWords w)) .nodes ≡ 0)
+prepared-empty w h =
+    let l = prepared-good w h in
+    let g = prepare-passing w l in
+    (g, omega (arith, nodes-exact g, prepare-says w l .none-held))
 
-  -- the same, as the sentence
-  pub history-keys : (x : ℕ) → (member x q ≡ 1) ↔ InsertedSince x log
-  history-keys x = (λ h. told-exactly x log .0 (sym (history x) ∙ h), λ s. history x ∙ told-exactly x log .1 s)
-
-  pub history-passing : Passing q
-  history-passing = calls-passing (prepare-passing w (prepared-good w prepared)) calls
-
-  -- The set's search, on the words that are left.
-  pub history-search : (x : ℕ) → (codeOf (searchAnswer q x) ≡ 0) ↔ (told x log ≡ 1)
-  history-search x =
-      let k = search-codes history-passing x .done-when in
-      (λ z. sym (history x) ∙ k .0 z, λ h. k .1 (history x ∙ h))
-
-  -- A search for x in a further call, after the commands `before` of that call: code 0 exactly when the log up to there tells x.
-  module _ (bytes out : List ℕ) (b : Bytes bytes) (given : (batch q bytes out) .code ≡ 0) where
-    pub search-tells : (before : List Command) (c : Command) (rest : List Command) → readBatch bytes ≡ commands (before ++ (c ∷ rest))
-        → c .operation ≡ Search
-        → (getD ((batch q bytes out) .answers) (2 * length before) 0 ≡ 0) ↔ (told (c .first) (log ++ entries before ((batch q bytes out) .answers)) ≡ 1)
-    search-tells before c rest read op =
-        let x = c .first in
-        let g = history-passing in
-        let R = call-ran g bytes out b given read in
-        let S = runAll before (stateOf q) in
-        let small = small-append before (c ∷ rest) (R .small) .0 in
-        let sound : Sound S = run-sound before (stateOf q) small (R .sound) in
-        let w = command-words g bytes out b given before c rest read in
-        let code-is : codeOf ((perform c S) .answer) ≡ codeOf ((search x S) .answer) = ap codeOf (searches c S op) in
-        let in-is : isIn x S ≡ told x (log ++ entries before ((batch q bytes out) .answers)) =
-        run-told x before (stateOf q) small (R .sound)
-        ∙ (ap (λ (n : ℕ). toldFrom x n (entriesOf before (stateOf q))) (sym (member-state g x) ∙ history x)
-        ∙ (sym (told-append x 0 log (entriesOf before (stateOf q))) ∙ ap (λ (l : List Entry). told x (log ++ l)) (sym (w .first-entries)))) in
-        let k = search-codes-state x S sound .done in
-        (λ z. sym in-is ∙ k .0 (sym (w .code-word ∙ code-is) ∙ z), λ z. w .code-word ∙ (code-is ∙ k .1 (in-is ∙ z)))
+pub history-prepared : (w : List ℕ) {q : List ℕ} {log : List Entry} → prepareCode w ≡ 0 → Calls (preparedWords w) log q → (x : ℕ) → member x q ≡ told x log
+history-prepared w h calls = let e = prepared-empty w h in history (e .0) (e .1) calls

@@ -1,6 +1,9 @@
 pub mod Runs
 pub mod Called
 pub mod Ends
+pub mod Codes
+pub mod Striking
 pub mod Told
 pub mod History
 pub mod StepsInBatches
+pub mod StepsLeft

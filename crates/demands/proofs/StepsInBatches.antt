@@ -80,13 +80,13 @@ module _ (c : Command) (S : State) (sound : Sound S) where
     where
       go : (o : Operation) → c .operation ≡ o → NoUpdate (entry c ((operation o (c .first) (c .second) S) .answer)) → Falls (operation o (c .first) (c .second) S)
       go Search e u = falls-kept (search (c .first) S) (rw e) (search-kept (c .first) S sound)
-      go Insert e u = falls-kept (insert (c .first) S) (rw e) (insert-kept (c .first) S sound (λ z. u .no-insert z e))
-      go Delete e u = falls-kept (delete (c .first) S) (rw e) (delete-kept (c .first) S sound (λ z. u .no-delete z e))
+      go Insert e u = falls-kept (insert (c .first) S) (rw e) (insert-kept (c .first) S sound (λ z. u .no-insert (omega arith) e))
+      go Delete e u = falls-kept (delete (c .first) S) (rw e) (delete-kept (c .first) S sound (λ z. u .no-delete (omega arith) e))
       go Step e u = step-falls e (stepping (c .first) (c .second) S) refl
       go Settle e u = omega (arith, steps-settle (entry c ((settle (c .first) S) .answer)) e, settle-state-falls S (c .first) sound)
 
 -- All commands of a call, and any number of calls.
-run-falls : (cs : List Command) (S : State) → AllSmall cs → Sound S → NoUpdates (entriesOf cs S) → stepsIn (entriesOf cs S) + boundOf (runAll cs S) ≤ boundOf S
+pub run-falls : (cs : List Command) (S : State) → AllSmall cs → Sound S → NoUpdates (entriesOf cs S) → stepsIn (entriesOf cs S) + boundOf (runAll cs S) ≤ boundOf S
 unfolding runAll entriesOf stepsIn NoUpdates AllSmall
 run-falls [] S h g u = omega arith
 run-falls (c ∷ cs) S h g u =

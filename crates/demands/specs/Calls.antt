@@ -1,12 +1,14 @@
 -- Sequences of batch calls and their log: each command that ran, with the two answer words that it got. All of it can be seen from
 -- outside: bytes, answer words, codes. What the demands say of such sequences is proved in proofs/.
 use mathlib.Core.Path.{_≡_}
-use mathlib.Core.Logic.{_≢_}
+use mathlib.Core.Logic.{_≢_, _↔_, _⊎_}
 use mathlib.Core.Bool.{Bool, true, false, _&&_}
 use mathlib.Core.List.{List, [], _∷_, _++_}
 use lib.Dec.{eqb}
 use lib.ListN.{getD, drop}
 use Prim.Native.Nat.{ℕ, _+_}
+use Rattle.tree.specs.declared.Refusal.the-variants.{KeyAbsent}
+use Rattle.tree.specs.Codes.{code}
 use Rattle.encoding.specs.declared.Operation.{Operation}
 use Rattle.encoding.specs.declared.Operation.the-variants.{Insert, Delete, Step, Settle}
 use Rattle.encoding.specs.declared.Command.{Command}
@@ -71,6 +73,16 @@ pub record InsertedSince (x : ℕ) (log : List Entry) : Type 0 where
   pub log-is : log ≡ earlier ++ (insertion ∷ later)
   pub is-accepted : accepted Insert x insertion ≡ true
   pub none-since : NoneAccepted Delete x later
+
+-- The same from a pool that may have keys, a pool that is taken up again: x was in it and since then came no accepted delete of x, or it
+-- was inserted since. (`told-from-exactly`: it is the same.)
+abbrev pub KeptOrInserted : ℕ → Type 0 → List Entry → Type 0
+KeptOrInserted x was-in log = (was-in × NoneAccepted Delete x log) ⊎ InsertedSince x log
+
+-- A search's code, by what is told of its key: 0 exactly when that is 1; 6, "key absent", exactly when it is 0.
+pub record SearchTells (is-told given : ℕ) : Type 0 where
+  pub done-when : (given ≡ 0) ↔ (is-told ≡ 1)
+  pub absent-when : (given ≡ code KeyAbsent) ↔ (is-told ≡ 0)
 
 -- Demand 3: the accepted steps of an entry, a step with code 0 or the steps that a settle reports; and of a whole log.
 unfoldable pub stepsOf : Entry → ℕ

@@ -1,6 +1,7 @@
 pub mod OperationNumbers
 pub mod Endings
 pub mod Performs
+pub mod Causes
 pub mod AnswerWords
 pub mod Worked
 pub mod Decides

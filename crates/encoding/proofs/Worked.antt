@@ -1,4 +1,4 @@
--- Document 01, Worked by hand: P1 to P9 in one table, and one proof, which the checker computes. A row is what the definitions
+-- Document 01, Worked by hand: P1 to P9 and the line without a P, and a router that is no key, in one table, and one proof, which the checker computes. A row is what the definitions
 -- give, from batch bytes and pool words, and what 01 says. Assumes nothing.
 use mathlib.Core.Path.{_≡_, refl}
 use mathlib.Core.Bool.{Bool, true, false, not, _&&_, _||_}
@@ -58,6 +58,10 @@ w5b = pool (header 1 4 7 0) (slot 30 5 7 1 ∷ freeSlot 0 ∷ slot 20 0 0 1 ∷ 
 -- of c: root 1, c 2, e 3, its leaves 4 and 5, c's other leaf 6, d 7, its leaves 8 and 9. w is the leaves' weight.
 abbrev w8 : ℕ → List ℕ
 w8 w = pool (header 1 0 9 0) (slot 30 2 7 1 ∷ slot 20 3 6 0 ∷ slot 10 4 5 0 ∷ slot 10 0 0 w ∷ slot 20 0 0 w ∷ slot 30 0 0 w ∷ slot 40 8 9 0 ∷ slot 40 0 0 w ∷ slot 50 0 0 w ∷ [])
+
+-- router 20 over the keys 10 and 30
+abbrev router20 : List ℕ
+router20 = pool (header 1 4 3 0) (slot 20 2 3 1 ∷ slot 10 0 0 1 ∷ slot 30 0 0 1 ∷ freeSlot 5 ∷ freeSlot 6 ∷ freeSlot 7 ∷ freeSlot 8 ∷ freeSlot 9 ∷ freeSlot 0 ∷ [])
 
 -- A call on words, with as many answer words as its n commands need, which hold 77 before it: what it gives and answers, and the
 -- words that it leaves in the pool.
@@ -146,6 +150,12 @@ cases =
     ∷ row (numberWords (number (0x80 ∷ 0x00 ∷ []) 0)) []
     ∷ row (numberWords (number (0xFF ∷ 0xFF ∷ 0xFF ∷ 0xFF ∷ 0x0F ∷ []) 0)) (4294967295 ∷ 5 ∷ [])
     ∷ row (numberWords (number (0xFF ∷ 0xFF ∷ 0xFF ∷ 0xFF ∷ 0x10 ∷ []) 0)) []
+    -- without a P: "Step slot 10 gives 8; slot 1 kind 9 after P1 gives 9; kind 2 there gives 10."
+    ∷ row (says w1 (4 ∷ 10 ∷ 1 ∷ 4 ∷ 1 ∷ 9 ∷ 4 ∷ 1 ∷ 2 ∷ []) 3) (0 ∷ 0 ∷ 8 ∷ 0 ∷ 9 ∷ 0 ∷ 10 ∷ 0 ∷ [])
+    -- Audit rules: "A router need not be a key present." Insert 20, 30, 10 and delete 20; the pool passes, and search 20 gives 6.
+    ∷ row (says (wordsOf (prepared 9)) (2 ∷ 20 ∷ 2 ∷ 30 ∷ 2 ∷ 10 ∷ 3 ∷ 20 ∷ []) 4) (0 ∷ 0 ∷ 0 ∷ 1 ∷ 0 ∷ 3 ∷ 0 ∷ 4 ∷ 0 ∷ 2 ∷ [])
+    ∷ row (leaves-words (wordsOf (prepared 9)) (2 ∷ 20 ∷ 2 ∷ 30 ∷ 2 ∷ 10 ∷ 3 ∷ 20 ∷ []) 4) router20
+    ∷ row (says router20 (1 ∷ 20 ∷ []) 1) (0 ∷ 0 ∷ 6 ∷ 0 ∷ [])
     ∷ []
 
 pub worked : allGiven cases ≡ allSaid cases

@@ -1,3 +1,4 @@
 pub mod Numbers
 pub mod Operations
 pub mod Batch
+pub mod Causes

@@ -1,6 +1,6 @@
 -- What each answer of the audit says of the words, for all who begin with it: 1 and 2 by their causes (`length-wrong`,
 -- `rules-are-broken`), and that words which pass show a sound State under the header that the audit answers (`rules-are-kept`). The code
--- is 0 exactly where the words show one (`audit-exact`). Assumes nothing.
+-- is 0 exactly where the words show one (`audit-exact`), and each code is given exactly for its cause (`audit-codes`). Assumes nothing.
 use mathlib.Core.Path.{_≡_, refl, sym, _∙_}
 use mathlib.Core.Logic.{_↔_, _≢_}
 use mathlib.Core.Bool.{Bool, true, false, false≢true}
@@ -104,3 +104,32 @@ code-broken p l = go (audited-case p)
 pub audit-exact : (p : List ℕ) → Words32 p → (auditCode p ≡ 0) ↔ ((S : State) × Sound S × PoolShows p S)
 unfolding auditCode
 audit-exact p words = (λ e. let k = code-kept p words e in (stateOf p, k .sound, k .shows), λ g. rw (audited-passed p (g .1) (g .2)))
+
+-- The three codes, each exactly for its cause.
+pub record AuditCodes (p : List ℕ) : Type 0 where
+  pub passed-when : (auditCode p ≡ 0) ↔ ((lengthGood p ≡ true) × (rulesHold p ≡ true))
+  pub length-when : (auditCode p ≡ 1) ↔ (lengthGood p ≡ false)
+  pub broken-when : (auditCode p ≡ 2) ↔ ((lengthGood p ≡ true) × (rulesHold p ≡ false))
+
+pub audit-codes : (p : List ℕ) → AuditCodes p
+unfolding auditCode
+audit-codes p = record {
+  passed-when = (passed (audited-case p), λ h. rw (audited-kept p (h .0) (h .1)));
+  length-when = (wrong (audited-case p), λ h. rw (audited-length p h));
+  broken-when = (broken (audited-case p), λ h. rw (audited-broken p (h .0) (h .1)));
+}
+  where
+    passed : {r : Audited} → Case p r → auditedCode r ≡ 0 → (lengthGood p ≡ true) × (rulesHold p ≡ true)
+    passed (wrong-length h) e = absurd (omega arith)
+    passed (rules-broken h f) e = absurd (omega arith)
+    passed (rules-kept h f) e = (h, f)
+
+    wrong : {r : Audited} → Case p r → auditedCode r ≡ 1 → lengthGood p ≡ false
+    wrong (wrong-length h) e = h
+    wrong (rules-broken h f) e = absurd (omega arith)
+    wrong (rules-kept h f) e = absurd (omega arith)
+
+    broken : {r : Audited} → Case p r → auditedCode r ≡ 2 → (lengthGood p ≡ true) × (rulesHold p ≡ false)
+    broken (wrong-length h) e = absurd (omega arith)
+    broken (rules-broken h f) e = (h, f)
+    broken (rules-kept h f) e = absurd (omega arith)

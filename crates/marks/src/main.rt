@@ -1,73 +1,73 @@
-// The program behind ./marks: prepares 127 slots, runs standard input, up to 4,096 bytes, as one batch, and prints its answers.
-// All that matters is in the library; what is printed is tested against stored output.
-use commands::MOST_COMMANDS;
-use commands::Scanned;
-use commands::scan;
+// The program behind ./marks: reads standard input, up to 4,096 bytes, and writes to standard output what crate lines makes of them; or
+// it says on standard error what it could not read or write. A program of this language has no exit status but 0: ./marks gives one.
+use libc::STDERR_FILENO;
 use libc::STDIN_FILENO;
 use libc::STDOUT_FILENO;
-use pool::prepare;
+use lines::MOST_PRINTED;
+use lines::render;
+ghost use mathlib.Core.Path.{_≡_};
+ghost use lib.ListN.{length};
+ghost use Rattle.lines.specs.Printed.{printed};
+ghost use Rattle.marks.specs.Input.{Within};
 
-// 01: "The program prepares 127 slots": 4 header words and 4 for each slot.
-const POOL_WORDS: usize = 512;
-// Two answer words for each command of a batch.
-const ANSWERS: usize = 2 * MOST_COMMANDS;
+// 01: "reads standard input up to 4,096 bytes (a good batch has at most 2,816)".
+const MOST_READ: usize = 4096;
 
-// A word, as io prints it.
-fn wide(x: u32) -> u64 {
-    x as u64
+// How many bytes were read, or that a read failed.
+enum Input {
+    Bytes(usize),
+    Unread,
 }
 
-// 01: "per command one line, code, space, number".
-fn print_line(code: u32, number: u32) {
-    io::print_decimal(STDOUT_FILENO, wide(code));
-    io::write_all(STDOUT_FILENO, b" ");
-    io::print_decimal(STDOUT_FILENO, wide(number));
-    io::write_all(STDOUT_FILENO, b"\n");
-}
-
-// 01: "for a call refused whole, "refused", space, code, space, number."
-fn print_refused(code: u32, number: u32) {
-    io::write_all(STDOUT_FILENO, b"refused ");
-    print_line(code, number);
-}
-
-// The answer of command i, one of at most MOST_COMMANDS.
-fn print_answer(answers: &[u32], i: usize) {
-    if i < MOST_COMMANDS {
-        print_line(slots::word(answers, 2 * i), slots::word(answers, 2 * i + 1));
+// Reads until buf is full or the input ends.
+fn read_all(buf: &mut [u8]) -> Input
+    ensures { λ r. ⌜ Within r (length (now (buf .exit))) ⌝ }
+{
+    let mut done = 0;
+    while done < buf.len() {
+        let got = libc::read(STDIN_FILENO, &mut buf[done..]);
+        if got < 0 {
+            return Input::Unread;
+        }
+        let more = io::count(got, &buf[done..]);
+        if more == 0 {
+            return Input::Bytes(done);
+        }
+        done += more;
     }
+    Input::Bytes(done)
 }
 
-fn print_answers(answers: &[u32], count: usize) {
-    let mut i = 0;
-    while i < count {
-        print_answer(answers, i);
-        i += 1;
-    }
+// The one write: what it is handed is what is printed of the bytes read.
+fn write_lines(text: &[u8], bytes: &[u8]) -> bool
+    requires { ⌜ now text ≡ printed (now bytes) ⌝ }
+{
+    io::write_all(STDOUT_FILENO, text)
 }
 
-fn commands_in(bytes: &[u8]) -> usize {
-    let found = scan(bytes);
-    match found {
-        Scanned::Commands(count) => count,
-        Scanned::BadAt(_) => 0,
-    }
+fn run(bytes: &[u8]) -> bool {
+    let mut out = [0u8; MOST_PRINTED];
+    let end = render(bytes, &mut out);
+    write_lines(&out[..end], bytes)
 }
 
-fn run(bytes: &[u8]) {
-    let mut pool = [0u32; POOL_WORDS];
-    let mut answers = [0u32; ANSWERS];
-    prepare(&mut pool);
-    let called = batch::batch(&mut pool, bytes, &mut answers);
-    if called.code == 0 {
-        print_answers(&answers, commands_in(bytes));
-    } else {
-        print_refused(called.code, called.number);
-    }
+fn say_unread() {
+    io::write_all(STDERR_FILENO, b"marks: standard input cannot be read\n");
+}
+
+fn say_unwritten() {
+    io::write_all(STDERR_FILENO, b"marks: standard output cannot be written\n");
 }
 
 fn main() {
-    let mut buf = io::buffer();
-    let n = io::read_full(STDIN_FILENO, &mut buf);
-    run(&buf[..n]);
+    let mut buf = [0u8; MOST_READ];
+    let input = read_all(&mut buf);
+    match input {
+        Input::Unread => say_unread(),
+        Input::Bytes(n) => {
+            if !run(&buf[..n]) {
+                say_unwritten();
+            }
+        }
+    }
 }

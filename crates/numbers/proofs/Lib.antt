@@ -2,4 +2,5 @@ pub mod Groups
 pub mod Ahead
 pub mod Took
 pub mod Shortest
+pub mod Faults
 pub mod Decides

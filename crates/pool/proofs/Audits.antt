@@ -1,14 +1,14 @@
 -- The audit's answer. Each fault that it looks for rules out that the words show a sound State, by format's local facts (Cover.antt);
--- where it finds none they show one. And the rules hold exactly where they do (format's Rules.antt), so the answer is the definition's.
--- Assumes nothing.
+-- where it finds none they show one. And the rules hold exactly where they do (format's Rules.antt), so the answer is the definition's
+-- (`audit-tour`). Assumes nothing.
 use mathlib.Core.Path.{_≡_, refl, ap, _∙_, sym}
 use mathlib.Core.Logic.{_≢_}
 use mathlib.Core.Bool.{Bool, true, false}
 use mathlib.Core.List.{List}
 use Prim.Native.Nat.{ℕ, _-_, _≤_, _<_}
 use native.Mathlib.Omega.{arith}
+use Rattle.tree.proofs.Tests.{same-or-not, either-way}
 use Rattle.tree.specs.State.{Top, empty, full, nodes, GoodTop}
-use Rattle.format.specs.declared.Header.{Header}
 use Rattle.format.specs.declared.Audited.the-variants.{Broken, Passed}
 use Rattle.format.specs.Words.{headerOf, slotsIn, lengthGood, rootOf, spareOf}
 use Rattle.format.specs.Shows.{HoldsTop}
@@ -17,18 +17,22 @@ use Rattle.format.proofs.Frame.{holds-root, holds-one}
 use Rattle.format.proofs.Shown.{good-length}
 use Rattle.format.proofs.Cover.{LocalFacts, local-facts, facts-shows, facts-sound, sound-local}
 use Rattle.format.proofs.Rules.{rules-show}
-use Rattle.format.proofs.AuditCases.{Words32, audited-broken, audited-passed}
+use Rattle.format.proofs.AuditCases.{Words32, audited-length, audited-broken, audited-passed}
+use Rattle.pool.specs.declared.Walk.{Walk}
 use Rattle.pool.specs.declared.Walk.the-variants.{Bad, Whole}
 use Rattle.pool.specs.Standing.{allowance}
-use Rattle.pool.specs.Walks.{FineTop, TopSays, ChainSays}
+use Rattle.pool.specs.Visits.{chainTour, topTour, counted, walksTour, auditTour}
+use Rattle.pool.proofs.Tours.{audit-length, audit-spare, audit-nodes, audit-walks, walks-chain, walks-tree, counted-other, counted-all}
+use Rattle.pool.proofs.Walks.{FineTop, TopSays, top-says}
+use Rattle.pool.proofs.Chains.{ChainSays, chain-says}
 use Rattle.pool.proofs.Standing.{good-fine}
 
 -- no top and no chain have the local facts: the words show no sound State
-abbrev pub NotShown : List ℕ → Type 0
+abbrev NotShown : List ℕ → Type 0
 NotShown p = (t : Top) (fs : List ℕ) → LocalFacts (headerOf p) p t fs → ⊥
 
 module _ (p : List ℕ) where
-  pub shown-broken : lengthGood p ≡ true → Words32 p → NotShown p → audited p ≡ Broken
+  shown-broken : lengthGood p ≡ true → Words32 p → NotShown p → audited p ≡ Broken
   shown-broken h words none = go (rulesHold p) refl
     where
       go : (b : Bool) → rulesHold p ≡ b → audited p ≡ Broken
@@ -36,14 +40,14 @@ module _ (p : List ℕ) where
       go false e = audited-broken p h e
 
   -- The faults.
-  pub not-spare : (headerOf p) .spare ≢ 0 → NotShown p
+  not-spare : (headerOf p) .spare ≢ 0 → NotShown p
   unfolding spareOf
   not-spare h t fs f = h (f .spare-is)
 
-  pub not-nodes : slotsIn p < (headerOf p) .nodes → NotShown p
+  not-nodes : slotsIn p < (headerOf p) .nodes → NotShown p
   not-nodes h t fs f = omega (arith, f .nodes-is, f .all-slots)
 
-  pub not-chain : ChainSays p ((headerOf p) .free) (slotsIn p - (headerOf p) .nodes) false → NotShown p
+  not-chain : ChainSays p ((headerOf p) .free) (slotsIn p - (headerOf p) .nodes) false → NotShown p
   not-chain says t fs f = says (record { slots = fs; chain = f .chain-held; slots-are = omega (arith, f .nodes-is, f .all-slots) })
 
   -- The tree that the local facts speak of is one that the walk looks for, and at a root there is only one.
@@ -59,8 +63,8 @@ module _ (p : List ℕ) where
   one-top (full t) empty root left f g = absurd (omega (arith, g, f .at, holds-root (f .holds) .from-one))
   one-top (full t) (full u) root left f g = ap full (holds-one (f .holds) (g .holds) (f .at ∙ sym (g .at)) .1)
 
-  pub not-top : TopSays p ((headerOf p) .root) (allowance p) Bad → NotShown p
-  not-top says t fs f = says t (fine-top t f)
+  not-top : TopSays p ((headerOf p) .root) (allowance p) ((headerOf p) .nodes) Bad → NotShown p
+  not-top says t fs f = says t (fine-top t f) (omega (arith, f .nodes-is))
 
   -- what the walk found is what the local facts ask of the tree
   top-facts : (t : Top) (root left : ℕ) → FineTop p root left t → (root ≡ rootOf t) × HoldsTop p t × GoodTop t
@@ -68,17 +72,42 @@ module _ (p : List ℕ) where
   top-facts empty root left f = (f, tt, tt)
   top-facts (full t) root left f = (sym (f .at), f .holds, record { ordered = f .ordered; chromatic = f .chromatic; low = omega (arith, f .low) })
 
-  module _ {n l : ℕ} (W : TopSays p ((headerOf p) .root) (allowance p) (Whole n l)) where
-    pub not-count : n ≢ (headerOf p) .nodes → NotShown p
-    not-count h t fs f = h (W .nodes-are ∙ (ap nodes (one-top (W .top) t _ _ (W .fine) (fine-top t f)) ∙ sym (f .nodes-is)))
+  module _ {rest l : ℕ} (W : TopSays p ((headerOf p) .root) (allowance p) ((headerOf p) .nodes) (Whole rest l)) where
+    not-count : rest ≢ 0 → NotShown p
+    not-count h t fs f = h (omega (arith, W .nodes-are, ap nodes (one-top (W .top) t _ _ (W .fine) (fine-top t f)), f .nodes-is))
 
     -- No fault.
-    pub found-all : {h : Header} → h ≡ headerOf p → lengthGood p ≡ true → (headerOf p) .spare ≡ 0 → (headerOf p) .nodes ≤ slotsIn p
-        → ChainSays p ((headerOf p) .free) (slotsIn p - (headerOf p) .nodes) true → n ≡ (headerOf p) .nodes
-        → Passed h l ≡ audited p
+    found-all : lengthGood p ≡ true → (headerOf p) .spare ≡ 0 → (headerOf p) .nodes ≤ slotsIn p
+        → ChainSays p ((headerOf p) .free) (slotsIn p - (headerOf p) .nodes) true → rest ≡ 0
+        → Passed (headerOf p) l ≡ audited p
     unfolding spareOf
-    found-all read length-good spare few chain count =
+    found-all length-good spare few chain count =
         let T = top-facts (W .top) _ _ (W .fine) in
         let facts : LocalFacts (headerOf p) p (W .top) (chain .slots) =
-        local-facts length-good (T .0) (sym count ∙ W .nodes-are) spare (T .1) (T .2) (chain .chain) (omega (arith, W .nodes-are, chain .slots-are)) in
-        cc (read, W .level-is, audited-passed p (facts-sound facts) (facts-shows facts))
+        local-facts length-good (T .0) (omega (arith, W .nodes-are)) spare (T .1) (T .2) (chain .chain) (omega (arith, W .nodes-are, chain .slots-are)) in
+        cc (W .level-is, audited-passed p (facts-sound facts) (facts-shows facts))
+
+  -- The walks, where length and header are good; then the whole audit.
+  module _ (words : Words32 p) (good : lengthGood p ≡ true) (spare : (headerOf p) .spare ≡ 0) (few : (headerOf p) .nodes ≤ slotsIn p) where
+    tree-tour : ChainSays p ((headerOf p) .free) (slotsIn p - (headerOf p) .nodes) true → (r : Walk)
+        → TopSays p ((headerOf p) .root) (allowance p) ((headerOf p) .nodes) r → counted (headerOf p) r ≡ audited p
+    tree-tour chain Bad says = sym (shown-broken good words (not-top says))
+    tree-tour chain (Whole rest l) W = same-or-not rest 0
+        (λ e. rw (counted-all (headerOf p) rest l refl e) (found-all W good spare few chain e))
+        (λ h. rw (counted-other (headerOf p) rest l h) (sym (shown-broken good words (not-count W h))))
+
+    walks-tour : (b : Bool) → (chainTour (slotsIn p - (headerOf p) .nodes) p ((headerOf p) .free)) .answer ≡ b
+        → ChainSays p ((headerOf p) .free) (slotsIn p - (headerOf p) .nodes) b → (walksTour (headerOf p) p) .answer ≡ audited p
+    walks-tour false e says = walks-chain (headerOf p) p e ∙ sym (shown-broken good words (not-chain says))
+    walks-tour true e says = walks-tree (headerOf p) p e ∙ tree-tour says ((topTour p ((headerOf p) .root) (allowance p) ((headerOf p) .nodes)) .answer) (top-says p ((headerOf p) .root) (allowance p) ((headerOf p) .nodes) (omega (arith, good-length p good .few-slots)))
+
+  pub audit-tour : Words32 p → (auditTour p) .answer ≡ audited p
+  audit-tour words = go (lengthGood p) refl
+    where
+      go : (b : Bool) → lengthGood p ≡ b → (auditTour p) .answer ≡ audited p
+      go false e = ap (λ x. x .answer) (audit-length p e) ∙ sym (audited-length p e)
+      go true e = same-or-not ((headerOf p) .spare) 0
+          (λ z. either-way ((headerOf p) .nodes) (slotsIn p)
+          (λ few. ap (λ x. x .answer) (audit-walks p e z few) ∙ walks-tour words e z few _ refl (chain-says (slotsIn p - (headerOf p) .nodes) p ((headerOf p) .free)))
+          (λ many. ap (λ x. x .answer) (audit-nodes p e many) ∙ sym (shown-broken e words (not-nodes many))))
+          (λ h. ap (λ x. x .answer) (audit-spare p e h) ∙ sym (shown-broken e words (not-spare h)))

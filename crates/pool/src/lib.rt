@@ -14,13 +14,13 @@ use slots::put_slot;
 use slots::slots_in;
 use tree::Answer;
 use tree::MOST_LEVEL;
-use tree::MOST_SLOTS;
 use tree::Refusal;
 ghost use mathlib.Core.Path.{_≡_};
 ghost use Rattle.format.specs.Audit.{audited, auditCode};
 ghost use Rattle.pool.specs.Results.{prepareCode, preparedWords};
 ghost use Rattle.pool.specs.Standing.{allowance};
-ghost use Rattle.pool.specs.Walks.{LeafSays, JoinSays, WalkSays, TopSays, FreeSays, ChainSays};
+ghost use Rattle.pool.specs.Walks.{FreeSays};
+ghost use Rattle.pool.specs.Visits.{leafWalk, joinWalk, treeTour, topTour, chainTour};
 
 // 01: "The root's is 1 and counts in nothing."
 pub const ROOT_WEIGHT: u32 = 1;
@@ -61,8 +61,8 @@ pub fn allowance(pool: &[u32]) -> u32
     (last_slot(pool) + 1) / 2
 }
 
-// What a walk over a tree finds: a fault; or how many nodes the tree has, and what the weights from the edge above it down to each
-// leaf add up to.
+// What a walk over a tree finds: a fault; or how many of the nodes that it may have are left over, and what the weights from the edge
+// above it down to each leaf add up to.
 enum Walk {
     Bad,
     Whole(u32, u32),
@@ -72,8 +72,8 @@ enum Walk {
 const MOST_SUM: u32 = MOST_LEVEL + ROOT_WEIGHT;
 
 // A slot whose left is 0, as a leaf with its key from lo to below hi.
-fn walk_leaf(c: Slot, lo: u64, hi: u64) -> Walk
-    ensures { λ r. ⌜ LeafSays c lo hi r ⌝ }
+fn walk_leaf(c: Slot, lo: u64, hi: u64, rest: u32) -> Walk
+    ensures { λ r. ⌜ r ≡ leafWalk c lo hi rest ⌝ }
 {
     if c.right != 0 {
         return Walk::Bad;
@@ -90,12 +90,12 @@ fn walk_leaf(c: Slot, lo: u64, hi: u64) -> Walk
     if hi <= c.key as u64 {
         return Walk::Bad;
     }
-    Walk::Whole(1, c.weight)
+    Walk::Whole(rest, c.weight)
 }
 
-// An edge of weight w to an inner node, whose subtrees have an and bn nodes and the sums al and bl.
-fn join(w: u32, an: u32, al: u32, bn: u32, bl: u32) -> Walk
-    ensures { λ r. ⌜ JoinSays w an al bn bl r ⌝ }
+// An edge of weight w to an inner node, whose subtrees have the sums al and bl.
+fn join(w: u32, rest: u32, al: u32, bl: u32) -> Walk
+    ensures { λ r. ⌜ r ≡ joinWalk w rest al bl ⌝ }
 {
     if al != bl {
         return Walk::Bad;
@@ -104,29 +104,19 @@ fn join(w: u32, an: u32, al: u32, bn: u32, bl: u32) -> Walk
     if (MOST_SUM as u64) < sum {
         return Walk::Bad;
     }
-    let nodes = 1 + an as u64 + bn as u64;
-    if (MOST_SLOTS as u64) < nodes {
-        return Walk::Bad;
-    }
-    Walk::Whole(nodes as u32, sum as u32)
+    Walk::Whole(rest, sum as u32)
 }
 
-// The tree at slot s, its keys from lo to below hi, at most `left` nodes deep.
-//
-// On any words, with a first allowance of (C + 1) / 2, it is called at most C + (C + 1) / 2 + 1 times:
-// - The first Bad ends the whole walk. So every call has answered Whole but those that are open then, one at most for each allowance
-//   from (C + 1) / 2 down to 0.
-// - A call that answers Whole has found a leaf, and all its leaves have keys within its bounds. A node's right side is walked once its
-//   left side has answered Whole, with bounds that begin above the left side's keys. So of two leaves found, the later has the
-//   greater key.
-// - So no slot has two calls that answer Whole. If one were inside the other, the slot's tree would be a part of itself, for the words
-//   at a slot decide the tree there. If one came after the other, both would find the same leaves. And there are C slots.
-// Shared subtrees, slots that point at one another and long ways down change nothing in this. Without the end at the first fault
-// a pool can ask for 2 ^ ((C + 1) / 2) calls.
-fn walk_tree(pool: &[u32], s: u32, lo: u64, hi: u64, left: u32) -> Walk
-    ensures { λ r. ⌜ WalkSays (now (pool .entry)) s lo hi left r ⌝ }
+// The tree at slot s, its keys from lo to below hi, at most `left` nodes deep, of at most `most` nodes. A right side may have the nodes
+// that its left side left over, and the first fault ends the walk: at most most + 1 calls in all, on any words (`tree-visits` in
+// proofs/Visits.antt).
+fn walk_tree(pool: &[u32], s: u32, lo: u64, hi: u64, left: u32, most: u32) -> Walk
+    ensures { λ r. ⌜ r ≡ (treeTour left (now (pool .entry)) s lo hi most) .answer ⌝ }
 {
     if left < 1 {
+        return Walk::Bad;
+    }
+    if most < 1 {
         return Walk::Bad;
     }
     if !is_slot(pool, s) {
@@ -134,33 +124,33 @@ fn walk_tree(pool: &[u32], s: u32, lo: u64, hi: u64, left: u32) -> Walk
     }
     let c = get_slot(pool, s);
     if c.left == 0 {
-        return walk_leaf(c, lo, hi);
+        return walk_leaf(c, lo, hi, most - 1);
     }
     let mid = c.key as u64 + 1;
-    let Walk::Whole(an, al) = walk_tree(pool, c.left, lo, mid, left - 1) else {
+    let Walk::Whole(more, al) = walk_tree(pool, c.left, lo, mid, left - 1, most - 1) else {
         return Walk::Bad;
     };
-    let Walk::Whole(bn, bl) = walk_tree(pool, c.right, mid, hi, left - 1) else {
+    let Walk::Whole(rest, bl) = walk_tree(pool, c.right, mid, hi, left - 1, more) else {
         return Walk::Bad;
     };
-    join(c.weight, an, al, bn, bl)
+    join(c.weight, rest, al, bl)
 }
 
-// The whole tree, none where the root is 0: its nodes, and L.
-fn walk_top(pool: &[u32], root: u32, left: u32) -> Walk
-    ensures { λ r. ⌜ TopSays (now (pool .entry)) root left r ⌝ }
+// The whole tree, none where the root is 0: the nodes left over, and L.
+fn walk_top(pool: &[u32], root: u32, left: u32, most: u32) -> Walk
+    ensures { λ r. ⌜ r ≡ (topTour (now (pool .entry)) root left most) .answer ⌝ }
 {
     if root == 0 {
-        return Walk::Whole(0, 0);
+        return Walk::Whole(most, 0);
     }
     let c = get_slot(pool, root);
     if c.weight != ROOT_WEIGHT {
         return Walk::Bad;
     }
-    let Walk::Whole(n, l) = walk_tree(pool, root, 0, KEY_END, left) else {
+    let Walk::Whole(rest, l) = walk_tree(pool, root, 0, KEY_END, left, most) else {
         return Walk::Bad;
     };
-    Walk::Whole(n, l - ROOT_WEIGHT)
+    Walk::Whole(rest, l - ROOT_WEIGHT)
 }
 
 fn is_free(c: Slot) -> bool
@@ -180,7 +170,7 @@ fn is_free(c: Slot) -> bool
 
 // Whether the free chain from slot `first` on has n slots and ends there.
 fn walk_chain(pool: &[u32], first: u32, n: u32) -> bool
-    ensures { λ r. ⌜ ChainSays (now (pool .entry)) first n r ⌝ }
+    ensures { λ r. ⌜ r ≡ (chainTour n (now (pool .entry)) first) .answer ⌝ }
 {
     let mut s = first;
     let mut left = n;
@@ -201,7 +191,8 @@ fn walk_chain(pool: &[u32], first: u32, n: u32) -> bool
     true
 }
 
-// The audit.
+// The audit. The chain may have C - N slots and the tree N nodes: at most C + 1 visits in all, on any words, and C where the pool passes
+// (`audit-visits` and `passed-visits` in proofs/Visits.antt).
 pub fn examine(pool: &[u32]) -> Audited
     ensures { λ r. ⌜ r ≡ audited (now (pool .entry)) ⌝ }
 {
@@ -219,10 +210,10 @@ pub fn examine(pool: &[u32]) -> Audited
     if !walk_chain(pool, h.free, slots - h.nodes) {
         return Audited::Broken;
     }
-    let Walk::Whole(n, l) = walk_top(pool, h.root, allowance(pool)) else {
+    let Walk::Whole(rest, l) = walk_top(pool, h.root, allowance(pool), h.nodes) else {
         return Audited::Broken;
     };
-    if n != h.nodes {
+    if rest != 0 {
         return Audited::Broken;
     }
     Audited::Passed(h, l)

@@ -3,8 +3,10 @@
 -- Why: on words that show a sound State each operation is the State's (the crates' `…-shows`), of which crate tree says what it answers
 -- and which keys it moves, and Members.antt what the words then show. Assumes nothing.
 use mathlib.Core.Path.{_≡_, refl, ap, sym, _∙_}
+use mathlib.Core.Logic.{_↔_}
 use mathlib.Core.Bool.{true}
 use mathlib.Core.List.{List}
+use lib.ListN.{length}
 use native.Mathlib.Omega.{arith}
 use Prim.Native.Nat.{ℕ, pred, _+_, _*_, _≤_, _<_}
 use Rattle.tree.specs.declared.Answer.{Answer}
@@ -13,14 +15,19 @@ use Rattle.tree.specs.declared.Refusal.{Refusal}
 use Rattle.tree.specs.declared.Refusal.the-variants.{KeyPresent, KeyAbsent, NoRoom}
 use Rattle.tree.specs.Codes.{codeOf}
 use Rattle.tree.specs.Tree.{countIn}
-use Rattle.tree.specs.State.{keyEnd, Sound, Outcome, prepared, keysOf, isIn}
+use Rattle.tree.specs.State.{Top, empty, full, nodes, keyEnd, Sound, Outcome, prepared, keysOf, isIn, report}
+use Rattle.tree.proofs.Order.{leaves-keys, nodes-of}
 use Rattle.tree.proofs.Updated.{isIn-once, SearchSays, found, missing, InsertSays, present, no-room, added, DeleteSays, absent, removed}
 use Rattle.tree.proofs.Updated.{search-says as search-says-state, insert-says as insert-says-state, delete-says as delete-says-state, insert-sound, delete-sound}
 use Rattle.tree.proofs.StepState.{step-keeps-keys, step-sound-state}
 use Rattle.tree.proofs.Settling.{settle-sound-state}
-use Rattle.format.specs.Words.{slotsIn, lengthGood}
-use Rattle.format.specs.Shows.{PoolShows}
-use Rattle.format.proofs.Shown.{shows-length-good}
+use Rattle.format.specs.Words.{headerOf, slotsIn, lengthGood, rootOf}
+use Rattle.format.specs.Shows.{HoldsTop, PoolShows}
+use Rattle.format.proofs.Frame.{holds-root}
+use Rattle.format.proofs.Shown.{shows-root, shows-nodes, shows-length-good}
+use Rattle.report.specs.declared.Reported.{Reported}
+use Rattle.report.specs.Report.{reportOf}
+use Rattle.report.proofs.Exact.{report-exact}
 use Rattle.pool.specs.Results.{preparedWords}
 use Rattle.pool.proofs.Prepares.{prepared-shows}
 use Rattle.updates.specs.Updating.{searchAnswer, insertAnswer, insertWords, deleteAnswer, deleteWords}
@@ -31,7 +38,7 @@ use Rattle.steps.specs.Steps.{stepWords, settleWords}
 use Rattle.steps.proofs.StepShows.{step-entry}
 use Rattle.steps.proofs.SettleShows.{settle-entry}
 use Rattle.set.specs.Set.{Passing, member, held, room, needed, OneMore, SameSet, Prepared, Searched, here, nowhere, Inserted, key-present, room-lacking, inserted, Deleted, key-absent, gone, KeyCodes, InsertCodes}
-use Rattle.tree.proofs.Moves.{upwards-length, Moves, insert-moves, delete-moves, step-free, settle-keeps-keys, settle-free}
+use Rattle.tree.proofs.Moves.{upwards-length, nodes-held, Moves, insert-moves, delete-moves, step-free, settle-keeps-keys, settle-free}
 use Rattle.set.proofs.Members.{member-shown, held-shown, room-shown, needed-shown, room-held, one-more, same-set}
 use Rattle.updates.proofs.Kept.{insert-kept, delete-kept}
 
@@ -41,6 +48,38 @@ member-once g x = omega (arith, member-shown (g .1) (g .2) x, isIn-once x (g .0)
 
 pub room-exact : {p : List ℕ} → Passing p → pred (2 * held p) + room p ≡ slotsIn p
 room-exact g = room-held (g .1) (g .2) ∙ sym (shows-length-good (g .1) (g .2) .1)
+
+-- The header's N is the slots that the keys take, and so is the report's first number. "Root is 0 exactly when N is 0", and then there is
+-- no key and every slot is free.
+module _ {p : List ℕ} (g : Passing p) where
+  pub nodes-exact : (headerOf p) .nodes ≡ pred (2 * held p)
+  nodes-exact = omega (arith, shows-nodes (g .2), nodes-held (g .0 .top), held-shown (g .1) (g .2))
+
+  pub report-nodes : (reportOf p) .figures .nodes ≡ (headerOf p) .nodes
+  unfolding report nodes
+  report-nodes = ap (λ (r : Reported). r .figures .nodes) (report-exact (g .1) (g .2)) ∙ (go (g .0 .top) ∙ sym (shows-nodes (g .2)))
+    where
+      go : (t : Top) → (report t) .nodes ≡ nodes t
+      go empty = refl
+      go (full t) = refl
+
+  pub root-none : ((headerOf p) .root ≡ 0) ↔ ((headerOf p) .nodes ≡ 0)
+  unfolding rootOf nodes HoldsTop
+  root-none = rw (shows-root (g .2), shows-nodes (g .2)) (go (g .0 .top) (g .2 .tree-held))
+    where
+      go : (t : Top) → HoldsTop p t → (rootOf t ≡ 0) ↔ (nodes t ≡ 0)
+      go empty h = (λ z. refl, λ z. refl)
+      go (full t) h = (λ z. absurd (omega (arith, holds-root h .from-one)), λ z. absurd (omega (arith, nodes-of t)))
+
+  pub empty-says : (headerOf p) .nodes ≡ 0 → Prepared p (slotsIn p)
+  unfolding keysOf countIn
+  empty-says z =
+      let none : held p ≡ 0 = omega (arith, nodes-exact) in
+      record { no-member = λ x. member-shown (g .1) (g .2) x ∙ go x (g .0 .top) (sym (held-shown (g .1) (g .2)) ∙ none); none-held = none; all-free = omega (arith, room-exact g) }
+    where
+      go : (x : ℕ) (t : Top) → length (keysOf t) ≡ 0 → countIn x (keysOf t) ≡ 0
+      go x empty h = refl
+      go x (full t) h = absurd (omega (arith, nodes-of t, leaves-keys t))
 
 pub prepare-says : (p : List ℕ) → lengthGood p ≡ true → Prepared (preparedWords p) (slotsIn p)
 unfolding prepared keysOf countIn

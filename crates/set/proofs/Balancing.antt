@@ -1,8 +1,8 @@
 -- Demand 3 over pools that pass the audit, by the report's own numbers: m accepted step calls in a row, of any slots and kinds, lower
 -- the report's seventh number by m or more (`steps-bounded`), so that they are at most (3N+1)D + 2NR + Q (`steps-few`); some call is
 -- accepted until R and the overweighted edges are 0, and then none (`some-accepted`, `none-accepted`). Settle's steps lower it too
--- (`settle-falls`), its code is 0 exactly when it leaves a red-black tree (`settle-balanced`), and a budget of that number is enough
--- (`settle-enough`).
+-- (`settle-falls`), its code is 0 exactly when it leaves a red-black tree (`settle-balanced`), a budget of that number is enough
+-- (`settle-enough`), and it takes no more steps than its budget, with code 12 as many (`settle-within`, `settle-spent`).
 -- Why: crate tree's Demand3.antt says so of sound States; the report of words that show one gives its numbers, and step and settle on
 -- such words are its step and settle. Of keys nothing is said here. Assumes nothing.
 use mathlib.Core.Path.{_≡_, refl, ap, sym, _∙_}
@@ -19,7 +19,7 @@ use Rattle.tree.specs.State.{State, Top, empty, full, Sound, report}
 use Rattle.tree.specs.Settle.{settle}
 use Rattle.tree.proofs.StepState.{step-sound-state}
 use Rattle.tree.proofs.Settling.{settle-sound-state}
-use Rattle.tree.proofs.SettleAnswers.{settle-state-falls, Ended, ended-done, ended-spent, settle-ended}
+use Rattle.tree.proofs.SettleAnswers.{settle-state-falls, settle-state-within, Ended, ended-done, ended-spent, settle-ended}
 use Rattle.tree.proofs.Demand3.{boundOf, BalancedState, accepted-falls, SomeAccepted, some-accepted-is, some-accepted as some-accepted-state, none-accepted as none-accepted-state, settle-code-0, settle-enough as settle-enough-state}
 use Rattle.format.specs.Shows.{PoolShows}
 use Rattle.report.specs.declared.Reported.{Reported}
@@ -38,7 +38,7 @@ module _ {p : List ℕ} {S : State} (sound : Sound S) (shows : PoolShows p S) wh
   unfolding boundNumber
   bound-shown = ap (λ (r : Reported). r .figures .bound) (report-exact sound shows)
 
-  balanced-shown : Balanced p ↔ BalancedState S
+  pub balanced-shown : Balanced p ↔ BalancedState S
   balanced-shown =
       let e = report-exact sound shows in
       let c : (reportOf p) .figures .conflicts ≡ (report (S .top)) .conflicts = ap (λ (r : Reported). r .figures .conflicts) e in
@@ -103,6 +103,16 @@ module _ {p : List ℕ} (g : Passing p) (budget : ℕ) where
       let b = settle-enough-state (g .0) budget (g .1) (omega (arith, bound-shown (g .1) (g .2))) in
       ap codeOf (shown .0) ∙ settle-code-0 (g .0) budget (g .1) .1 b
 
+  pub settle-within : numberOf (settleAnswer p budget) ≤ budget
+  settle-within = omega (arith, ap numberOf (shown .0), settle-state-within (g .0) budget)
+
+  pub settle-spent : codeOf (settleAnswer p budget) ≡ 12 → numberOf (settleAnswer p budget) ≡ budget
+  settle-spent = rw (shown .0) (go (settle-ended (g .0) budget))
+    where
+      go : {a : Answer} → Ended budget a → codeOf a ≡ 12 → numberOf a ≡ budget
+      go ended-done z = absurd (omega arith)
+      go ended-spent z = refl
+
   pub settle-answers : Settles budget (boundNumber p) (settleAnswer p budget)
   settle-answers = go (settle-ended (g .0) budget) (shown .0)
     where
@@ -111,5 +121,5 @@ module _ {p : List ℕ} (g : Passing p) (budget : ℕ) where
       few e (no n) = omega arith
 
       go : {a : Answer} → Ended budget a → settleAnswer p budget ≡ a → Settles budget (boundNumber p) (settleAnswer p budget)
-      go (ended-done {n}) e = rw e (done {n = n} (omega (arith, ap numberOf e, settle-falls)))
+      go (ended-done {n}) e = rw e (done {n = n} (omega (arith, ap numberOf e, settle-within)) (omega (arith, ap numberOf e, settle-falls)))
       go ended-spent e = rw e (spent (few e (decLe (boundNumber p) budget)))

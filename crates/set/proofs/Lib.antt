@@ -2,4 +2,5 @@ pub mod Passing
 pub mod Balancing
 pub mod Members
 pub mod Answers
+pub mod Leaves
 pub mod Promises

@@ -4,7 +4,8 @@
 -- `member x p` is 1 if x is in the set that the words p show, else 0; `held p` is the number of keys; `room p` is the number of free
 -- slots, of which the next key needs `needed p`. For each operation: that the pool passes the audit afterwards (`…-passing`); what it
 -- answers, with what then holds (`…-says`); each code exactly when its cause holds (`…-codes`); the same by the answer, for code that
--- matches on it (`…-done`, `…-refused`); and that a refusal changes no word, whatever the words (`…-kept`). Assumes nothing.
+-- matches on it (`…-done`, `…-refused`); which slot it answers (`…-slot`); and that a refusal changes no word, whatever the words
+-- (`…-kept`). Assumes nothing.
 use mathlib.Core.Path.{_≡_}
 use mathlib.Core.Logic.{_↔_}
 use mathlib.Core.Bool.{true}
@@ -15,18 +16,20 @@ use Rattle.tree.specs.declared.Refusal.{Refusal}
 use Rattle.tree.specs.declared.Refusal.the-variants.{NoRoom}
 use Rattle.tree.specs.Codes.{codeOf, numberOf}
 use Rattle.tree.specs.State.{keyEnd}
-use Rattle.format.specs.Words.{slotsIn, lengthGood}
+use Rattle.format.specs.Words.{headerOf, slotsIn, lengthGood}
 use Rattle.format.specs.Audit.{auditCode}
 use Rattle.pool.specs.Results.{preparedWords}
 use Rattle.format.proofs.AuditCases.{Words32}
 use Rattle.updates.specs.Updating.{searchAnswer, insertAnswer, insertWords, deleteAnswer, deleteWords}
 use Rattle.updates.proofs.Kept as kept
+use Rattle.report.specs.Report.{reportOf}
 use Rattle.steps.specs.Steps.{stepAnswer, stepWords, settleAnswer, settleWords}
 use Rattle.steps.proofs.StepShows as steps
-use Rattle.set.specs.Set.{Passing, member, held, room, needed, OneMore, SameSet, Prepared, Searched, Inserted, Deleted, Settles, KeyCodes, InsertCodes}
+use Rattle.set.specs.Set.{Passing, member, held, room, needed, LeafSlot, OneMore, SameSet, Prepared, Searched, Inserted, Deleted, Settles, KeyCodes, InsertCodes}
 use Rattle.set.specs.Balance.{boundNumber}
 use Rattle.set.proofs.Passing as passing
 use Rattle.set.proofs.Answers as answers
+use Rattle.set.proofs.Leaves as leaves
 use Rattle.set.proofs.Balancing as balancing
 
 -- The audit gives code 0 exactly to the pools that pass; every word of one is a 32-bit number.
@@ -45,6 +48,21 @@ member-once g = answers.member-once g
 
 pub room-exact : {p : List ℕ} → Passing p → pred (2 * held p) + room p ≡ slotsIn p
 room-exact g = answers.room-exact g
+
+-- The header's N is those slots, and so is the report's first number. A pool is empty exactly when N is 0, and then its root is 0: no
+-- key, and C free slots, on whatever chain.
+module _ {p : List ℕ} (g : Passing p) where
+  pub nodes-exact : (headerOf p) .nodes ≡ pred (2 * held p)
+  nodes-exact = answers.nodes-exact g
+
+  pub report-nodes : (reportOf p) .figures .nodes ≡ (headerOf p) .nodes
+  report-nodes = answers.report-nodes g
+
+  pub root-none : ((headerOf p) .root ≡ 0) ↔ ((headerOf p) .nodes ≡ 0)
+  root-none = answers.root-none g
+
+  pub empty-says : (headerOf p) .nodes ≡ 0 → Prepared p (slotsIn p)
+  empty-says = answers.empty-says g
 
 -- Prepare: no key, and C free slots.
 pub prepare-passing : (p : List ℕ) → lengthGood p ≡ true → Passing (preparedWords p)
@@ -67,6 +85,10 @@ module _ {p : List ℕ} (g : Passing p) (x : ℕ) where
   pub search-refused : {f : Refusal} → searchAnswer p x ≡ Refused f → member x p ≡ 0
   search-refused = answers.search-refused g x
 
+  -- The slot that is answered: exactly that of a leaf with the key.
+  pub search-slot : (s : ℕ) → (searchAnswer p x ≡ Done s) ↔ LeafSlot x s p
+  search-slot = leaves.search-slot g x
+
   -- Insert: "key present" exactly when the key is in the set; "fewer free slots than needed" exactly when it is not and there are; else
   -- done, and the set has that key more, and no other.
   pub insert-passing : x < keyEnd → Passing (insertWords p x)
@@ -83,6 +105,10 @@ module _ {p : List ℕ} (g : Passing p) (x : ℕ) where
 
   pub insert-refused : {f : Refusal} → x < keyEnd → member x p ≡ 0 → insertAnswer p x ≡ Refused f → (f ≡ NoRoom) × (room p < needed p)
   insert-refused = answers.insert-refused g x
+
+  -- The slot that is answered: that of a leaf with the key, in the words that are left.
+  pub insert-slot : (s : ℕ) → x < keyEnd → insertAnswer p x ≡ Done s → LeafSlot x s (insertWords p x)
+  insert-slot = leaves.insert-slot g x
 
   -- Delete: "key absent" exactly when the key is not in the set; else done, with the number of keys left, and the set had that key more,
   -- and no other.
@@ -102,7 +128,7 @@ module _ {p : List ℕ} (g : Passing p) (x : ℕ) where
   delete-refused = answers.delete-refused g x
 
 -- Settle: the set and its room stay. It is done with at most as many steps as the report's seventh number, or its budget is spent; that
--- number is budget enough, and it falls by the steps taken.
+-- number is budget enough, and it falls by the steps taken. These are at most the budget, and with code 12 all of it.
 module _ {p : List ℕ} (g : Passing p) (budget : ℕ) where
   pub settle-passing : Passing (settleWords p budget)
   settle-passing = passing.settle-passing g budget
@@ -118,6 +144,12 @@ module _ {p : List ℕ} (g : Passing p) (budget : ℕ) where
 
   pub settle-falls : numberOf (settleAnswer p budget) + boundNumber (settleWords p budget) ≤ boundNumber p
   settle-falls = balancing.settle-falls g budget
+
+  pub settle-within : numberOf (settleAnswer p budget) ≤ budget
+  settle-within = balancing.settle-within g budget
+
+  pub settle-spent : codeOf (settleAnswer p budget) ≡ 12 → numberOf (settleAnswer p budget) ≡ budget
+  settle-spent = balancing.settle-spent g budget
 
 -- Step: the set and its room stay.
 module _ {p : List ℕ} (g : Passing p) (s n : ℕ) where

@@ -1,5 +1,5 @@
--- The set of keys that a pool shows, and what its operations answer: the words of proofs/Promises.antt. They speak of a pool's words, and
--- name no tree.
+-- The set of keys that a pool shows, and what its operations answer: the words of proofs/Promises.antt. A crate above cites these names
+-- and does not look behind them: `member`, `held` and `room` are read off the State that the words show.
 use mathlib.Core.Path.{_≡_}
 use mathlib.Core.Logic.{_↔_}
 use mathlib.Core.List.{List}
@@ -9,11 +9,12 @@ use Prim.Native.Nat.{ℕ, _+_, _≤_, _<_}
 use Rattle.tree.specs.declared.Answer.{Answer}
 use Rattle.tree.specs.declared.Answer.the-variants.{Done, Refused, Spent}
 use Rattle.tree.specs.declared.Refusal.the-variants.{KeyPresent, KeyAbsent, NoRoom}
-use Rattle.tree.specs.Codes.{code}
-use Rattle.tree.specs.Tree.{one}
+use Rattle.tree.specs.Codes.{mostLevel, code}
+use Rattle.tree.specs.Tree.{one, countIn}
 use Rattle.tree.specs.State.{State, keysOf, isIn, Sound, slotsNeeded}
+use Rattle.format.specs.Words.{slot, headerOf, slotAt, slotsIn}
 use Rattle.format.specs.Shows.{PoolShows}
-use Rattle.format.specs.Audit.{stateOf}
+use Rattle.format.specs.Audit.{treeFound, chainFound, slotsOf, stateOf}
 
 -- The pool passes the audit: its words show a sound State. (`audit-passes`: exactly when the audit's code is 0.)
 abbrev pub Passing : List ℕ → Type 0
@@ -34,6 +35,18 @@ room p = length ((stateOf p) .free)
 unfoldable pub needed : List ℕ → ℕ
 needed p = slotsNeeded ((stateOf p) .top)
 
+-- The slot s, from 1 to C, is that of a leaf with the key x. "A leaf has left and right 0"; its weight is from 1 to 255. It is in the
+-- tree, as left and right lead there from the root, and not on the free chain.
+pub record LeafSlot (x s : ℕ) (p : List ℕ) : Type 0 where
+  pub from-one : 1 ≤ s
+  pub to-last : s ≤ slotsIn p
+  pub weight : ℕ
+  pub words : slotAt p s ≡ slot x 0 0 weight
+  pub not-red : 1 ≤ weight
+  pub weight-low : weight ≤ mostLevel
+  pub in-tree : countIn s (slotsOf (treeFound (headerOf p) p)) ≡ 1
+  pub not-free : countIn s (chainFound (headerOf p) p) ≡ 0
+
 -- q has the key x and every key that p has, and no other; what p needed for it is taken.
 pub record OneMore (x : ℕ) (p q : List ℕ) : Type 0 where
   pub members : (y : ℕ) → member y q ≡ member y p + one (eqb y x)
@@ -47,7 +60,7 @@ pub record SameSet (p q : List ℕ) : Type 0 where
   pub room-left : room q ≡ room p
 
 -- What the operations answer, and the words q that they leave.
--- Prepare: no key, and all C slots are free.
+-- Prepare, as every empty pool: no key, and all C slots are free.
 pub record Prepared (p : List ℕ) (slots : ℕ) : Type 0 where
   pub no-member : (x : ℕ) → member x p ≡ 0
   pub none-held : held p ≡ 0
@@ -69,9 +82,9 @@ pub data Deleted (x : ℕ) (p : List ℕ) : Answer → List ℕ → Type 0 where
   key-absent : member x p ≡ 0 → Deleted x p (Refused KeyAbsent) p
   gone : {q : List ℕ} → member x p ≡ 1 → OneMore x q p → Deleted x p (Done (held q)) q
 
--- Settle: done, with at most so many steps; or spent, with all of a budget that is less than so many.
+-- Settle: done, with at most so many steps and within its budget; or spent, with all of a budget that is less than so many.
 pub data Settles (budget most : ℕ) : Answer → Type 0 where
-  done : {n : ℕ} → n ≤ most → Settles budget most (Done n)
+  done : {n : ℕ} → n ≤ budget → n ≤ most → Settles budget most (Done n)
   spent : budget < most → Settles budget most (Spent budget)
 
 -- The codes, "given exactly when": of search and delete, and of insert.

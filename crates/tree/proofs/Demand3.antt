@@ -4,7 +4,7 @@
 -- when it leaves a red-black tree, and does so with so large a budget (`settle-code-0`, `settle-enough`; its steps: SettleAnswers.antt).
 -- Why: a sound State's tree is what the laws on trees ask, and an accepted step is one of theirs; an empty tree allows none.
 -- Assumes nothing.
-use mathlib.Core.Path.{_≡_, refl, ap}
+use mathlib.Core.Path.{_≡_, refl, ap, _∙_}
 use mathlib.Core.Logic.{_↔_, _⊎_, inl, inr}
 use native.Mathlib.Omega.{arith}
 use Prim.Native.Nat.{ℕ, suc, _+_, _≤_, _<_}
@@ -21,7 +21,7 @@ use Rattle.tree.proofs.StepState.{tree-good, tree-once, tree-slot, Step
 use Rattle.tree.proofs.Totals.{size-within}
 use Rattle.tree.proofs.Limits.{widest, slots-within}
 use Rattle.tree.proofs.Bound.{bound-falls}
-use Rattle.tree.proofs.Progress.{none-when-red-black, Accepts, accepts, step-until-red-black}
+use Rattle.tree.proofs.Progress.{red-black-bound, none-when-red-black, Accepts, accepts, step-until-red-black}
 use Rattle.tree.proofs.Settling.{lastAfter, proper-made, sound-proper, settle-after, settle-code, settle-empty}
 use Rattle.tree.proofs.Settled.{Held, settle-held, none-left-exactly, settles-red-black}
 
@@ -48,6 +48,15 @@ balanced-is S t e = (
 balanced-empty : (S : State) → S .top ≡ empty → BalancedState S
 unfolding report
 balanced-empty S e = record { no-conflict = rw e; no-overweight = rw e }
+
+-- a red-black tree's bound is 0
+pub balanced-bound : (S : State) → BalancedState S → boundOf S ≡ 0
+unfolding report
+balanced-bound S b = go (S .top) refl
+  where
+    go : (T : Top) → S .top ≡ T → boundOf S ≡ 0
+    go empty e = rw e
+    go (full t) e = bound-is S t e ∙ red-black-bound t (balanced-is S t e .0 b)
 
 -- What the laws on trees ask of a sound State's tree
 module _ (S : State) (t : Tree) (h : Sound S) (e : S .top ≡ full t) where

@@ -11,6 +11,7 @@ pub mod StepShape
 pub mod StepKeys
 pub mod StepLevels
 pub mod Mirror
+pub mod Lemma3
 pub mod StepState
 pub mod Order
 pub mod Search

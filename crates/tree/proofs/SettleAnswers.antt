@@ -1,5 +1,5 @@
 -- What settle answers, of a State: it is done, or spent with the whole budget taken (`settle-ended`), and its steps lower the bound by
--- as many (`settle-state-falls`). Why: it goes through the trees of its definition, each of a smaller bound. Assumes nothing.
+-- as many (`settle-state-falls`); they are no more than the budget (`settle-state-within`). Why: it goes through the trees of its definition, each of a smaller bound. Assumes nothing.
 use mathlib.Core.Path.{_≡_, refl}
 use mathlib.Core.Logic.{_⊎_, inl, inr}
 use mathlib.Core.Option.{Option, none, some}
@@ -12,7 +12,7 @@ use Rattle.tree.specs.Tree.{Tree}
 use Rattle.tree.specs.Distances.{bound}
 use Rattle.tree.specs.State.{State, Top, empty, full, Sound, report}
 use Rattle.tree.specs.Settle.{settled, settle}
-use Rattle.tree.proofs.Settling.{lastAfter, settle-ends, sound-proper, settle-after, settle-answer, settle-number, settle-empty}
+use Rattle.tree.proofs.Settling.{lastAfter, settle-ends, sound-proper, settle-after, settle-answer, settle-number, settle-empty, trees-within}
 use Rattle.tree.proofs.Settled.{trees-bounded}
 use Rattle.tree.proofs.Demand3.{boundOf}
 
@@ -44,3 +44,11 @@ settle-ended S b = go (S .top) refl
     go : (T : Top) → S .top ≡ T → Ended b ((settle b S) .answer)
     go empty e = rw (settle-empty S e b) ended-done
     go (full t) e = rw (settle-answer S t e b) (tree _ _ (settle-ends (S .slots) b t))
+
+-- no more steps than the budget
+pub settle-state-within : (S : State) (budget : ℕ) → numberOf ((settle budget S) .answer) ≤ budget
+settle-state-within S b = go (S .top) refl
+  where
+    go : (T : Top) → S .top ≡ T → numberOf ((settle b S) .answer) ≤ b
+    go empty e = rw (settle-empty S e b) (omega arith)
+    go (full t) e = omega (arith, settle-number S t e b, trees-within (S .slots) b t)

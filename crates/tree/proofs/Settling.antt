@@ -170,6 +170,16 @@ settle-ends c (suc b) t = go (nextTree c t) refl (settle-ends c b)
     go (some u) e f = more u (f u)
     go none e f = inr e
 
+-- .. and never after more trees than the budget
+pub trees-within : (c budget : ℕ) (t : Tree) → length (treesAfter c budget t) ≤ budget
+unfolding treesAfter
+trees-within c zero t = omega arith
+trees-within c (suc b) t = go (nextTree c t) (trees-within c b)
+  where
+    go : (o : Option Tree) → ((u : Tree) → length (treesAfter c b u) ≤ b) → length {A = Tree} (elim o [ some u ↦ u ∷ treesAfter c b u | none ↦ [] ]) ≤ suc b
+    go none h = omega arith
+    go (some u) h = omega (arith, h u)
+
 -- What every allowed step keeps settle keeps.
 kept-along : (P : Tree → Type 0) → ((s : ℕ) (k : Kind) (t : Tree) → P t → allowed s k t ≡ true → P (stepped k s t))
     → {c : ℕ} {t : Tree} {us : List Tree} → Follows c t us → P t → P (lastOf t us)

@@ -23,7 +23,7 @@ use Rattle.tree.specs.Kinds.{conditionAt, stepped, atLimit}
 use Rattle.tree.specs.State.{Top, empty, full, State, state, keysOf, keyEnd, Good, Sound, Outcome, gives, refuses, leafAt, noInner, stepKind, stepNamed, step}
 use Rattle.tree.specs.Settle.{allowed}
 use Rattle.tree.proofs.Tests.{two-true}
-use Rattle.tree.proofs.KindNumbers.{named-number}
+use Rattle.tree.proofs.KindNumbers.{named-known, named-number}
 use Rattle.tree.proofs.Steps.{innerIn, holdsAt-present, holdsAt-not, step-inner, made}
 use Rattle.tree.proofs.StepShape.{step-slots}
 use Rattle.tree.proofs.StepKeys.{step-keys, step-ordered}
@@ -208,3 +208,15 @@ module _ (s n : ℕ) (S : State) where
             let f = allowed-exactly s k t .0 (rw same at a) in
             let x = named-number n k g in
             record { kind = k; is-named = g; holds = f .0; below-limit = f .1; number = cc }
+
+    -- "An allowed step is a slot and kind that would be accepted."
+    pub allowed-accepted : (t : Tree) → S .top ≡ full t → (k : Kind) → n ≡ kindNumber k → (allowed s k t ≡ true) ↔ ((step s n S) .answer ≡ Done n)
+    allowed-accepted t e k f =
+        let is : named n ≡ Known k = rw f (named-known k) in (
+          λ a. let i = allowed-exactly s k t .0 a in accepted-iff t e n .1 (record { kind = k; is-named = is; holds = i .0; below-limit = i .1; number = refl }),
+          λ d.
+              let a = accepted-iff t e n .0 d in
+              let called = a .is-named in
+              let same : a .kind ≡ k = cc in
+              rw same at (allowed-exactly s (a .kind) t .1 (a .holds, a .below-limit)),
+        )

@@ -1,25 +1,43 @@
--- `pool::examine` meets its contract: each fault that it finds rules every State out, and where it finds none the words show one, by
--- the laws of Audits.antt. Assumes nothing.
+-- `pool::examine` meets its contract: each of its answers is that of the audit as it is walked, by a law of Tours.antt, and that is the
+-- definition's (`audit-tour` of Audits.antt). Assumes nothing.
 use mathlib.Core.Bool.{true}
-use mathlib.Core.Path.{_≡_, sym, _∙_}
+use mathlib.Core.Path.{_≡_, ap, sym, _∙_}
+use Prim.Native.Nat.{_≤_}
 use native.Mathlib.Omega.{arith}
 use borrow.Author.Needs.{needs}
 use borrow.Author.Tests.{not-true, not-false}
-use Rattle.format.proofs.Shown.{good-length}
-use Rattle.format.specs.Words.{lengthGood}
-use Rattle.format.specs.declared.Audited.the-variants.{Broken}
+use Rattle.format.specs.Words.{headerOf, slotsIn, lengthGood}
+use Rattle.format.specs.declared.Audited.{Audited}
 use Rattle.format.specs.Audit.{audited}
+use Rattle.format.proofs.Shown.{good-length}
 use Rattle.format.proofs.AuditCases.{audited-length}
-use Rattle.pool.proofs.Audits.{NotShown, shown-broken, not-spare, not-nodes, not-chain, not-top, not-count, found-all}
+use Rattle.pool.specs.Standing.{allowance}
+use Rattle.pool.specs.Visits.{topTour, counted, auditTour}
+use Rattle.pool.proofs.Tours.{audit-spare, audit-nodes, audit-walks, walks-chain, walks-tree, counted-other, counted-all}
+use Rattle.pool.proofs.Audits.{audit-tour}
 use Rattle.pool.proofs.examine.Statement.{statement}
 use Rattle.pool.proofs.examine.Tie as tie
 
--- Beyond the first test the length is good; and where no State is shown there, a rule is broken.
+-- Beyond the first test the length is good, and what the walked audit answers is the definition's.
 good : (c : tie.Else1) → lengthGood (c .before .before .before .args .pool .now) ≡ true
 good c = sym (c .before .length-good .ensures) ∙ not-false _ (c .if1 .left)
 
-broken : (c : tie.Else1) → NotShown (c .before .before .before .args .pool .now) → Broken ≡ audited (c .before .before .before .args .pool .now)
-broken c f = sym (shown-broken _ (good c) (λ i. omega (arith, c .before .before .shared-slice-known .given i)) f)
+told : (c : tie.Else1) {r : Audited} → (auditTour (c .before .before .before .args .pool .now)) .answer ≡ r → r ≡ audited (c .before .before .before .args .pool .now)
+told c e = sym e ∙ audit-tour _ (λ i. omega (arith, c .before .before .shared-slice-known .given i))
+
+-- Beyond the third the header is good; beyond the fourth the chain is.
+spare : (c : tie.Else3) → (headerOf (c .before .before .before .before .before .before .before .before .before .args .pool .now)) .spare ≡ 0
+spare c = omega (arith, rw (c .before .before .before .before .get-header .ensures) at (c .before .before .if2 .left))
+
+few : (c : tie.Else3) → (headerOf (c .before .before .before .before .before .before .before .before .before .args .pool .now)) .nodes ≤ slotsIn (c .before .before .before .before .before .before .before .before .before .args .pool .now)
+few c = rw (c .before .before .before .before .get-header .ensures, c .before .before .before .before .before .slots-in .ensures) at (c .if3 .left)
+
+whole : (c : tie.Else4)
+    → let p = c .before .before .before .before .before .before .before .before .before .before .before .before .args .pool .now in (auditTour p) .answer ≡ counted (headerOf p) ((topTour p ((headerOf p) .root) (allowance p) ((headerOf p) .nodes)) .answer)
+whole c =
+    let k = (c .before .before .before) in
+    let chain = rw (not-false (c .before .walk-chain .result) (c .if4 .left), c .before .before .before .before .before .before .before .get-header .ensures, c .before .before .before .before .before .before .before .before .slots-in .ensures) at (c .before .walk-chain .ensures) in
+    ap (λ x. x .answer) (audit-walks _ (good (k .before .before .before .before .before .before)) (spare k) (few k)) ∙ walks-tree _ _ (sym chain)
 
 length-good-requires : tie.Need-length-good-requires
 length-good-requires c κs = search needs
@@ -37,19 +55,25 @@ get-header-requires : tie.Need-get-header-requires
 get-header-requires c κs = search needs
 
 returns-2 : tie.Need-returns-2
-returns-2 c = broken (c .before .before .before .before) (not-spare _ (omega (arith, rw (c .before .before .get-header .ensures) at (c .if2 .taken))))
+returns-2 c =
+    let k = (c .before .before .before .before) in
+    let other = rw (c .before .before .get-header .ensures) at (c .if2 .taken) in
+    told k (ap (λ x. x .answer) (audit-spare _ (good k) (omega (arith, other))))
 
 returns-3 : tie.Need-returns-3
-returns-3 c = broken (c .before .before .before .before .before .before) (not-nodes _ (rw (c .before .before .before .before .get-header .ensures, c .before .before .before .before .before .slots-in .ensures) at (c .if3 .taken)))
+returns-3 c =
+    let k = (c .before .before .before .before .before .before) in
+    let many = rw (c .before .before .before .before .get-header .ensures, c .before .before .before .before .before .slots-in .ensures) at (c .if3 .taken) in
+    told k (ap (λ x. x .answer) (audit-nodes _ (good k) many))
 
 walk-chain-requires : tie.Need-walk-chain-requires
 walk-chain-requires c κs = search needs
 
 returns-4 : tie.Need-returns-4
 returns-4 c =
-    let read = c .before .before .before .before .before .before .before .get-header .ensures in
-    let slots = c .before .before .before .before .before .before .before .before .slots-in .ensures in
-    broken (c .before .before .before .before .before .before .before .before .before) (not-chain _ (rw (not-true (c .before .walk-chain .result) (c .if4 .taken), read, slots) at (c .before .walk-chain .ensures)))
+    let k = (c .before .before .before) in
+    let chain = rw (not-true (c .before .walk-chain .result) (c .if4 .taken), c .before .before .before .before .before .before .before .get-header .ensures, c .before .before .before .before .before .before .before .before .slots-in .ensures) at (c .before .walk-chain .ensures) in
+    told (k .before .before .before .before .before .before) (ap (λ x. x .answer) (audit-walks _ (good (k .before .before .before .before .before .before)) (spare k) (few k)) ∙ walks-chain _ _ (sym chain))
 
 allowance-requires : tie.Need-allowance-requires
 allowance-requires c κs = search needs
@@ -57,29 +81,29 @@ allowance-requires c κs = search needs
 walk-top-requires : tie.Need-walk-top-requires
 walk-top-requires c κs = search needs
 
-enum-known-n : tie.Need-enum-known-n
-enum-known-n c = search needs
+enum-known-rest : tie.Need-enum-known-rest
+enum-known-rest c = search needs
 
 enum-told : tie.Need-enum-told
 enum-told c = search needs
 
 returns-5 : tie.Need-returns-5
 returns-5 c =
-    let read = c .before .before .before .before .before .before .before .before .before .before .before .get-header .ensures in
-    broken (c .before .before .before .before .before .before .before .before .before .before .before .before .before) (not-top _ (rw (c .enum-told .given .1, read, c .before .before .before .allowance .ensures) at (c .before .before .walk-top .ensures)))
+    let k = (c .before .before .before .before) in
+    let tree = rw (c .enum-told .given .1, c .before .before .before .before .before .before .before .before .before .before .before .get-header .ensures, c .before .before .before .allowance .ensures) at (c .before .before .walk-top .ensures) in
+    told (k .before .before .before .before .before .before .before .before .before) (whole k ∙ ap (counted _) (sym tree))
 
 returns-6 : tie.Need-returns-6
 returns-6 c =
-    let read = c .before .before .before .before .before .before .before .before .before .before .before .before .before .before .get-header .ensures in
-    broken (c .before .before .before .before .before .before .before .before .before .before .before .before .before .before .before .before) (not-count _ (rw (c .before .before .before .n .given .1, read, c .before .before .before .before .before .before .allowance .ensures) at (c .before .before .before .before .before .walk-top .ensures)) (omega (arith, rw read at (c .if5 .taken))))
+    let k = (c .before .before .before .before .before .before) in
+    let tree = rw (c .before .before .rest .given .1, c .before .before .before .before .before .before .before .before .before .before .before .before .before .get-header .ensures, c .before .before .before .before .before .allowance .ensures) at (c .before .before .before .before .walk-top .ensures) in
+    told (k .before .before .before .before .before .before .before .before .before) (whole k ∙ (ap (counted _) (sym tree) ∙ counted-other _ _ _ (c .if5 .taken)))
 
 returns-7 : tie.Need-returns-7
 returns-7 c =
-    let read = c .before .before .before .before .before .before .before .before .before .before .before .before .before .before .get-header .ensures in
-    let slots = c .before .before .before .before .before .before .before .before .before .before .before .before .before .before .before .slots-in .ensures in
-    let tree = rw (c .before .before .before .n .given .1, read, c .before .before .before .before .before .before .allowance .ensures) at (c .before .before .before .before .before .walk-top .ensures) in
-    let chain = rw (not-false (c .before .before .before .before .before .before .before .before .walk-chain .result) (c .before .before .before .before .before .before .before .if4 .left), read, slots) at (c .before .before .before .before .before .before .before .before .walk-chain .ensures) in
-    found-all _ tree read (good (c .before .before .before .before .before .before .before .before .before .before .before .before .before .before .before .before)) (omega (arith, rw read at (c .before .before .before .before .before .before .before .before .before .before .before .before .if2 .left))) (rw (read, slots) at (c .before .before .before .before .before .before .before .before .before .before .if3 .left)) chain (omega (arith, rw read at (c .if5 .left)))
+    let k = (c .before .before .before .before .before .before) in
+    let tree = rw (c .before .before .rest .given .1, c .before .before .before .before .before .before .before .before .before .before .before .before .before .get-header .ensures, c .before .before .before .before .before .allowance .ensures) at (c .before .before .before .before .walk-top .ensures) in
+    told (k .before .before .before .before .before .before .before .before .before) (whole k ∙ (ap (counted _) (sym tree) ∙ counted-all _ _ _ (c .before .before .before .before .before .before .before .before .before .before .before .before .before .get-header .ensures) (c .if5 .left)))
 
 pub examine-spec : {M : Type 1} → statement M
 examine-spec =
@@ -96,7 +120,7 @@ examine-spec =
     returns-4
     allowance-requires
     walk-top-requires
-    enum-known-n
+    enum-known-rest
     enum-told
     returns-5
     returns-6

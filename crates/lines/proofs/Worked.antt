@@ -1,0 +1,47 @@
+-- Document 01: "Input 02 0A 02 14 01 0A prints exactly three lines: `0 1`, `0 3`, `0 2`." It is the first row of a table of bytes read and
+-- bytes printed, with one proof: by `printed-shown` no pool's words are needed, and the rest the checker computes. Assumes nothing.
+use mathlib.Core.Path.{_≡_, refl, ap, _∙_}
+use mathlib.Core.List.{List, [], _∷_}
+use Prim.Native.Nat.{ℕ}
+use Rattle.format.proofs.Rows.{Row, row, allSaid}
+use Rattle.encoding.specs.Numbers.{lastGroup, below, groups, number}
+use Rattle.encoding.specs.Batch.{lastArgument, onlyArgument, twoArguments, argumentsAt, meantAt, operationAt, commandAt, after, readFrom, readBatch, operation, perform, answersOf}
+use Rattle.tree.specs.Tree.{slotOf, isLeaf, size, leaves, red, overweighted, one, count, countIn, level}
+use Rattle.tree.specs.Updates.{reach, reachedSlot, reachedKey, insertAt, newSlot, movedTo, cut, deleteAt}
+use Rattle.tree.specs.State.{nodes, upwards, prepared, search, insertFirst, insertMore, insert, deleted, delete}
+use Rattle.lines.specs.Printed.{digits, decimal, line, refusedLine, printed}
+use Rattle.lines.proofs.Printing.{answerLines, shown, printed-shown}
+
+-- a row's first list is read, its second is what 01 says is printed
+unfoldable pub allPrinted : List Row → List (List ℕ)
+allPrinted [] = []
+allPrinted (r ∷ rs) = printed (r .given) ∷ allPrinted rs
+
+unfoldable pub allShown : List Row → List (List ℕ)
+allShown [] = []
+allShown (r ∷ rs) = shown (readBatch (r .given)) ∷ allShown rs
+
+all-shown : (rs : List Row) → allPrinted rs ≡ allShown rs
+unfolding allPrinted allShown
+all-shown [] = refl
+all-shown (r ∷ rs) = rw (printed-shown (r .given), all-shown rs)
+
+unfoldable pub cases : List Row
+cases =
+    -- `0 1`, `0 3`, `0 2`
+    row (0x02 ∷ 0x0A ∷ 0x02 ∷ 0x14 ∷ 0x01 ∷ 0x0A ∷ []) (48 ∷ 32 ∷ 49 ∷ 10 ∷ 48 ∷ 32 ∷ 51 ∷ 10 ∷ 48 ∷ 32 ∷ 50 ∷ 10 ∷ [])
+    -- "An empty batch is good." It has no line.
+    ∷ row [] []
+    -- an insert, and then operation 6, which begins at byte 2: `refused 3 2`
+    ∷ row (0x02 ∷ 0x0A ∷ 0x06 ∷ []) (114 ∷ 101 ∷ 102 ∷ 117 ∷ 115 ∷ 101 ∷ 100 ∷ 32 ∷ 51 ∷ 32 ∷ 50 ∷ 10 ∷ [])
+    -- inserts of 1 to 6, the last in slot 11: `0 1`, `0 3`, `0 5`, `0 7`, `0 9`, `0 11`; then a search of 7: `6 0`
+    ∷ row (2 ∷ 1 ∷ 2 ∷ 2 ∷ 2 ∷ 3 ∷ 2 ∷ 4 ∷ 2 ∷ 5 ∷ 2 ∷ 6 ∷ 1 ∷ 7 ∷ [])
+    (48 ∷ 32 ∷ 49 ∷ 10 ∷ 48 ∷ 32 ∷ 51 ∷ 10 ∷ 48 ∷ 32 ∷ 53 ∷ 10 ∷ 48 ∷ 32 ∷ 55 ∷ 10 ∷ 48 ∷ 32 ∷ 57 ∷ 10 ∷ 48 ∷ 32 ∷ 49 ∷ 49 ∷ 10 ∷ 54 ∷ 32 ∷ 48 ∷ 10 ∷ [])
+    ∷ []
+
+computed : allShown cases ≡ allSaid cases
+unfolding cases allShown allSaid lastGroup below groups number lastArgument onlyArgument twoArguments argumentsAt meantAt operationAt commandAt after readFrom readBatch operation perform answersOf slotOf isLeaf size leaves red overweighted one count countIn level reach reachedSlot reachedKey insertAt newSlot movedTo cut deleteAt nodes upwards prepared search insertFirst insertMore insert deleted delete digits decimal line refusedLine answerLines shown
+computed = refl
+
+pub worked : allPrinted cases ≡ allSaid cases
+worked = all-shown cases ∙ computed

@@ -1,0 +1,9 @@
+pub mod Paths
+pub mod Chromatic
+pub mod RedBlack
+pub mod Places
+pub mod Accepts
+pub mod Effects
+pub mod Figures
+pub mod Updates
+pub mod Unnarrowed
