@@ -1,11 +1,11 @@
-# Shared by test, bench and faults in this folder (sourced, POSIX sh): makes the archives that the Rust host links.
+# Shared by archive, test, bench and faults in this folder (sourced, POSIX sh): makes the archives that the Rust host links.
 #   make_archives    sets $native (folder of an archive for this machine's own processor) and $shipped (folder of the
 #                    archive that rt staticlib writes, for x86-64; empty where there is none)
 #   make_x86_rust    on aarch64: puts an x86-64 Rust below $HOST_CACHE and fits x86_cargo; fails with the cause in $why
 # Environment:
-#   HOST_ARCHIVE=DIR     takes DIR/libchromatic.a, built for this processor, and runs no rt; 'cousin' builds the cousin's
-#   HOST_TARGET=DIR      everything is built below it (the repository's target/host)
-#   HOST_CACHE=DIR       where downloads are kept (HOST_TARGET; rt ci removes target/, so name another place to keep them)
+#   CHROMATIC_ARCHIVE=DIR  takes DIR/libchromatic.a, made for this processor, and runs no rt (the crate's build script reads it too)
+#   HOST_TARGET=DIR        everything but the archives is built below it (the repository's target/host)
+#   HOST_CACHE=DIR         where downloads are kept (HOST_TARGET; rt ci removes target/, so name another place to keep them)
 # Nothing is installed, and nothing changes outside target/ and these folders.
 
 say() { printf '%s: %s\n' "$me" "$*"; }
@@ -15,58 +15,58 @@ fail() { why=$*; return 1; }
 lib=chromatic
 export RUST_BACKTRACE=0 # a backtrace reads the program's own memory map, at which the kit's emulator faults
 export RUSTUP_AUTO_INSTALL=0
-command -v cargo >/dev/null || die "cargo is not on the PATH"
-command -v cc >/dev/null || die "there is no C compiler, which cargo links with: apt-get install gcc libc6-dev"
 machine=$(uname -m)
 target=${HOST_TARGET:-$root/target/host}
-mkdir -p "$target"
-target=$(cd "$target" && pwd -P)
+mkdir -p "$target" 2>/dev/null && [ -w "$target" ] || die "$target cannot be written: set HOST_TARGET to a folder that can"
+target=$(CDPATH='' cd -P "$target" && pwd -P)
 
-# Prints a folder that holds a copy of the archive and is named by its sum: cargo does not watch an archive, but links
-# again when a path in its flags is another.
-by_sum() { # ARCHIVE
-    [ -f "$1" ] || die "there is no archive $1"
-    folder=$target/archive/$(cksum <"$1" | tr ' ' -)
-    mkdir -p "$folder"
-    cp "$1" "$folder/lib$lib.a"
-    printf '%s\n' "$folder"
+need_cargo() {
+    command -v cargo >/dev/null || die "cargo is not on the PATH"
+    command -v cc >/dev/null || die "there is no C compiler, which cargo links with: apt-get install gcc libc6-dev"
 }
 
-# The cousin of the crate in FOLDER as an archive; prints its folder.
-cousin_archive() { # FOLDER
-    (cd "$1" && cargo rustc --quiet --offline --release -p cousin --lib --features exports --crate-type staticlib --target-dir "$target/cousin") >"$target/cousin.log" 2>&1 ||
-        { cat "$target/cousin.log" >&2; return 1; }
-    by_sum "$target/cousin/release/libcousin.a"
+# The cousin as an archive that stands in for the library's.
+make_cousin() {
+    say "the archive is the cousin's, not the library's"
+    native=$target/cousin/archive shipped=''
+    (cd "$root/host/cousin" && cargo rustc --quiet --offline --release --lib --features exports --crate-type staticlib --target-dir "$target/cousin") >"$target/cousin.log" 2>&1 ||
+        { cat "$target/cousin.log" >&2; die "the cousin does not build"; }
+    mkdir -p "$native"
+    cp "$target/cousin/release/libcousin.a" "$native/lib$lib.a"
+    export CHROMATIC_ARCHIVE="$native"
 }
 
 find_kit() {
-    command -v rt >/dev/null || die "rt is not on the PATH: the Rattle kit is needed, or HOST_ARCHIVE"
+    command -v rt >/dev/null || die "rt is not on the PATH: the Rattle toolchain is needed, or CHROMATIC_ARCHIVE=DIR with an archive in it"
     guide=$(rt doc) && kit=${guide%/docs/START-HERE.md}
     [ -d "$kit/on" ] || die "cannot find the kit's folder from 'rt doc' ($guide)"
     tools=$kit/on/aarch64/toolchain
 }
 
+# One at a time, where there is flock, as ./marks does: two builds in one target/ write the same files.
 prove_and_build() { # [KIT]: with that kit in place of the usual one
-    (cd "$root" && env ${1:+"RATTLE_HOME=$1"} rt staticlib "$lib") >"$target/rt.log" 2>&1 || { cat "$target/rt.log"; die "rt staticlib $lib failed"; }
-    shipped=$(by_sum "$root/target/staticlib/lib$lib.a")
+    exec 8<"$root/crates.txt"
+    if command -v flock >/dev/null && ! flock -n 8; then
+        say "another build is under way here: waiting for it" >&2
+        flock 8 || :
+    fi
+    build_archive "$@"
+    exec 8<&-
+}
+build_archive() { # [KIT]
+    (cd "$root" && env ${1:+"RATTLE_HOME=$1"} rt staticlib "$lib") >"$target/rt.log" 2>&1 || { cat "$target/rt.log" >&2; die "rt staticlib $lib failed (above)"; }
+    shipped=$root/target/staticlib
 }
 
 make_archives() {
-    rm -rf "$target/archive"
     shipped=''
-    case ${HOST_ARCHIVE-} in
-    '') ;;
-    cousin)
-        say "the archive is the cousin's, not the library's"
-        native=$(cousin_archive "$root/host") || die "the cousin does not build"
+    if [ -n "${CHROMATIC_ARCHIVE-}" ]; then
+        [ -f "$CHROMATIC_ARCHIVE/lib$lib.a" ] || die "CHROMATIC_ARCHIVE is '$CHROMATIC_ARCHIVE', and there is no lib$lib.a in it"
+        say "the archive is given by CHROMATIC_ARCHIVE"
+        native=$(cd "$CHROMATIC_ARCHIVE" && pwd -P)
+        export CHROMATIC_ARCHIVE="$native"
         return
-        ;;
-    *)
-        say "the archive is given by HOST_ARCHIVE"
-        native=$(by_sum "$HOST_ARCHIVE/lib$lib.a")
-        return
-        ;;
-    esac
+    fi
     find_kit
     case $machine in
     x86_64)
@@ -102,9 +102,10 @@ EOF
     "$tools/bin/clang" --target=x86_64-unknown-linux-gnu -x ir "$farm/module.bc" -S -emit-llvm -O0 -Xclang -disable-llvm-passes -o "$made/x86.ll"
     sed -e '/^target datalayout/d' -e 's/^target triple = .*/target triple = "aarch64-unknown-linux-gnu"/' -e 's/ "target-cpu"="x86-64"//' "$made/x86.ll" >"$made/arm.ll"
     "$tools/bin/clang" --target=aarch64-unknown-linux-gnu -O3 -fPIC -ffunction-sections -fdata-sections -Werror -x ir "$made/arm.ll" -c -o "$made/$lib.o"
-    rm -f "$made/lib$lib.a"
-    "$tools/bin/llvm-ar" rcs "$made/lib$lib.a" "$made/$lib.o"
-    native=$(by_sum "$made/lib$lib.a")
+    native=$root/target/staticlib-aarch64 # where the crate's build script looks
+    mkdir -p "$native"
+    rm -f "$native/lib$lib.a"
+    "$tools/bin/llvm-ar" rcs "$native/lib$lib.a" "$made/$lib.o"
 }
 
 # Debian's packages, downloaded to and unpacked in a folder. The lists of both architectures are fetched into the folder
@@ -185,7 +186,7 @@ EOF
 }
 
 make_x86_rust() {
-    [ -n "$shipped" ] || fail "HOST_ARCHIVE is in use, and the archive that ships was not built" || return 1
+    [ -n "$shipped" ] || fail "the archive is a given one, and the one that ships was not built" || return 1
     x86=${HOST_CACHE:-$target}/x86
     libs=$x86/unpacked/usr/lib/aarch64-linux-gnu
     [ -f "$x86/ready" ] && return
@@ -195,8 +196,16 @@ make_x86_rust() {
     echo "$found" >"$x86/ready"
 }
 
-# cargo for x86-64 on aarch64, linking the archive that ships and running under the kit's emulator.
-x86_cargo() {
+# Links the crate with DIR's library, by cargo's own way for a crate that has `links`: the build script does not run.
+linked() { # KIND DIR TRIPLE SUBCOMMAND WORDS...
+    kind=$1 dir=$2 triple=$3
+    shift 3
+    cargo --config "target.$triple.$lib.rustc-link-lib=['$kind=$lib']" --config "target.$triple.$lib.rustc-link-search=['native=$dir']" "$@"
+}
+
+# cargo for x86-64 on aarch64, linking the archive that ships and running under the kit's emulator. (Its rustc has a
+# standard library for x86-64 alone, so that no build script could be compiled.)
+x86_cargo() { # SUBCOMMAND WORDS...
     RUSTC=$x86/bin/rustc CARGO_TARGET_X86_64_UNKNOWN_LINUX_GNU_LINKER=$x86/bin/x86-64-ld CARGO_TARGET_X86_64_UNKNOWN_LINUX_GNU_RUNNER=$x86/bin/run \
-        CARGO_TARGET_X86_64_UNKNOWN_LINUX_GNU_RUSTFLAGS="-C linker-flavor=ld -L native=$shipped" cargo "$@" --target x86_64-unknown-linux-gnu --target-dir "$target/x86-64"
+        CARGO_TARGET_X86_64_UNKNOWN_LINUX_GNU_RUSTFLAGS="-C linker-flavor=ld" linked static "$shipped" x86_64-unknown-linux-gnu "$@" --target x86_64-unknown-linux-gnu --target-dir "$target/x86-64"
 }

@@ -9,7 +9,7 @@ fn main() -> std::io::Result<()> {
     let mut bytes = Vec::new();
     std::io::stdin().lock().take(4096).read_to_end(&mut bytes)?;
     let mut words = [0; Pool::words_for(127)];
-    let mut pool = Pool::prepare(&mut words).expect("127 slots are a good length");
+    let mut pool = Pool::prepare(&mut words[..]).expect("127 slots are a good length");
     let mut answers = [UNFILLED; 512];
     match pool.run_bytes(&bytes, &mut answers) {
         Ok(()) => {

@@ -1,5 +1,9 @@
-/* The set of marks for C hosts: libchromatic.a. Each function answers for every input and allocates nothing.
- * A pool is 4 + 4C words, C from 1 to 1,023; lengths are in elements. Slices that are written overlap no other. */
+/* The set of marks for C and C++ hosts: libchromatic.a. Each function answers for every input and allocates nothing.
+ * A pool is 4 + 4C words, C from 1 to 1,023. C slots hold (C+1)/2 keys: 127 slots hold 64 keys.
+ * Lengths are in elements. A pointer may be NULL where its length is 0, and nowhere else. During a call what is written (pool,
+ * answers) overlaps nothing else that is lent, the batch included.
+ * A batch is commands one after another, each an operation and its arguments. Numbers in it are seven-bit groups, the lowest first, the
+ * top bit set where more follow, with no more groups than needed: 10 is the byte 0A, 200 the bytes C8 01 (docs/FORMATS.md). */
 #ifndef CHROMATIC_H
 #define CHROMATIC_H
 
@@ -7,11 +11,35 @@
 #include <stdint.h>
 
 #ifdef __cplusplus
+#define CHROMATIC_AS(type, value) static_cast<type>(value)
 extern "C" {
+#else
+#define CHROMATIC_AS(type, value) ((type)(value))
 #endif
 
-#define CHROMATIC_POOL_WORDS(slots) (4 + 4 * (size_t)(slots))
-#define CHROMATIC_MOST_SLOTS 1023
+/* The number of this interface; docs/INTERFACE.md says what each has. The function returns it. With GCC and Clang every file that
+ * includes this header refers to the function, so that a program does not link with an archive of another interface; with
+ * another compiler, call it once. */
+#define CHROMATIC_INTERFACE 1
+uint32_t chromatic_interface_1(void);
+#ifdef __GNUC__
+__attribute__((used))
+#ifdef __has_attribute
+#if __has_attribute(retain)
+__attribute__((retain)) /* from --gc-sections */
+#endif
+#endif
+static uint32_t (*const chromatic_interface_needed)(void) = chromatic_interface_1;
+#endif
+
+#ifdef __GNUC__
+#define CHROMATIC_MUST_USE __attribute__((warn_unused_result))
+#else
+#define CHROMATIC_MUST_USE
+#endif
+
+#define CHROMATIC_POOL_WORDS(slots) (4 + 4 * CHROMATIC_AS(size_t, slots)) /* slots from 1 to CHROMATIC_MOST_SLOTS */
+#define CHROMATIC_MOST_SLOTS 1023                                         /* which hold 512 keys */
 #define CHROMATIC_MOST_COMMANDS 256
 #define CHROMATIC_ANSWER_WORDS 2 /* for each command: code, number */
 
@@ -25,7 +53,7 @@ enum chromatic_code {
     /* The command is refused, and no pool word changes. */
     CHROMATIC_KEY_PRESENT = 5,
     CHROMATIC_KEY_ABSENT = 6,
-    CHROMATIC_NO_ROOM = 7, /* the key is not in the set, and asking again puts it there no sooner */
+    CHROMATIC_NO_ROOM = 7, /* the key is not in the set and cannot be marked: send nothing, asking again puts it there no sooner */
     CHROMATIC_NO_INNER_NODE = 8,
     CHROMATIC_NO_KIND = 9,
     CHROMATIC_CONDITION_FALSE = 10,
@@ -53,20 +81,21 @@ enum chromatic_figure {
 };
 
 /* Makes the pool empty: 0, or 1 and no word changes. */
-uint32_t chromatic_prepare(uint32_t *pool, size_t pool_len);
+CHROMATIC_MUST_USE uint32_t chromatic_prepare(uint32_t *pool, size_t pool_len);
 
 /* 0, 1 or 2. */
-uint32_t chromatic_audit(const uint32_t *pool, size_t pool_len);
+CHROMATIC_MUST_USE uint32_t chromatic_audit(const uint32_t *pool, size_t pool_len);
 
 /* The report's number at an index of enum chromatic_figure; 0 for a refused pool or any other index. */
-uint64_t chromatic_report(const uint32_t *pool, size_t pool_len, uint32_t index);
+CHROMATIC_MUST_USE uint64_t chromatic_report(const uint32_t *pool, size_t pool_len, uint32_t index);
 
-/* Runs the commands: 0, or a refusal's code times 2 to the power 32 plus its number. */
-uint64_t chromatic_batch(uint32_t *pool, size_t pool_len, const uint8_t *batch, size_t batch_len,
-                         uint32_t *answers, size_t answers_len);
+/* Runs the commands: 0, or a refusal's code times 2 to the power 32 plus its number. A mark is set when this returns, before
+ * its text goes out. */
+CHROMATIC_MUST_USE uint64_t chromatic_batch(uint32_t *pool, size_t pool_len, const uint8_t *batch, size_t batch_len,
+                                            uint32_t *answers, size_t answers_len);
 
-#define CHROMATIC_CODE(answer) ((uint32_t)((answer) >> 32))
-#define CHROMATIC_NUMBER(answer) ((uint32_t)(answer))
+#define CHROMATIC_CODE(answer) CHROMATIC_AS(uint32_t, (answer) >> 32)
+#define CHROMATIC_NUMBER(answer) CHROMATIC_AS(uint32_t, (answer) & UINT32_MAX)
 
 #ifdef __cplusplus
 }

@@ -1,12 +1,15 @@
 //! What the library answers: one type for each operation, with a case for each cause, and no `Option` anywhere.
 
-use crate::batch::Command;
+use crate::batch::{Command, Kind};
+use crate::layout;
+use core::fmt;
 
-/// Why a call was refused whole. Pool and answers are as they were.
+/// Why a call was refused whole. Pool and answers are as they were. Its text says what to do.
 #[derive(Clone, Copy, Debug, PartialEq, Eq)]
-#[must_use]
+#[must_use = "a refused call did nothing"]
+#[non_exhaustive]
 pub enum Refused {
-    /// Code 1: the pool's length is not 4 + 4C with C from 1 to 1,023.
+    /// Code 1: the pool's length is not 4 + 4C with C from 1 to 1,023. (C slots hold (C+1)/2 keys, 127 hold 64.)
     WrongLength,
     /// Code 2: the pool breaks an audit rule. What it says about marks means nothing: send no text by it.
     RulesBroken,
@@ -60,16 +63,37 @@ impl Refused {
     }
 }
 
-/// A search's answer.
+impl fmt::Display for Refused {
+    fn fmt(&self, f: &mut fmt::Formatter<'_>) -> fmt::Result {
+        write!(f, "refused with code {}: ", self.code())?;
+        match self {
+            Refused::WrongLength => {
+                write!(f, "the pool's length is not that of 1 to {} slots; Pool::words_for gives it", layout::MOST_SLOTS)
+            }
+            Refused::RulesBroken => f.write_str("the pool breaks an audit rule; what it says of marks means nothing, send no text by it"),
+            Refused::BadCommand { byte } => write!(
+                f,
+                "the command that begins at byte {byte} of the batch is unknown, cut short, not in shortest form, too large or the 257th; \
+                 a Batch writes none like it"
+            ),
+            Refused::FewAnswers => f.write_str("there are fewer than two answer words per command; lend more"),
+        }
+    }
+}
+
+impl core::error::Error for Refused {}
+
+/// A search's answer. Neither case allows a text: only [`Inserted::NewlyMarked`] does.
 #[derive(Clone, Copy, Debug, PartialEq, Eq)]
-#[must_use]
+#[must_use = "whether the key is marked is in here"]
+#[non_exhaustive]
 pub enum Searched {
     /// Code 0: the key is in the set.
-    Told {
+    Marked {
         /// Its leaf's slot.
         slot: u32,
     },
-    /// Code 6: the key is not in the set. It allows no text: only [`Inserted::Told`] does.
+    /// Code 6: the key is not in the set. Whether it can be, [`Pool::insert`](crate::Pool::insert) says.
     KeyAbsent,
 }
 
@@ -78,9 +102,12 @@ impl Searched {
     pub const KEY_ABSENT: u32 = 6;
 }
 
-/// The mark that one insert made. It cannot be made up, copied or cloned: who has it may send one text for its key.
-#[derive(Debug, PartialEq, Eq)]
-#[must_use = "the key is marked as told: whoever holds the mark sends the text"]
+/// The mark that one insert made. It cannot be made up, copied or cloned; a `fn send(mark: Mark)` uses it up.
+///
+/// The key is in the set already. Whoever drops the mark loses its text: nobody will be given another mark for that key
+/// until it is deleted. If the text did not go out, give the mark to [`Pool::withdraw`](crate::Pool::withdraw).
+#[derive(Debug)]
+#[must_use = "the key is marked: send its text with this mark, or withdraw it"]
 pub struct Mark {
     key: u32,
     slot: u32,
@@ -92,19 +119,21 @@ impl Mark {
         self.key
     }
 
-    /// The slot of the key's leaf.
+    /// The slot that the key's leaf had when the mark was made. Later inserts and deletes move leaves.
     pub fn slot(&self) -> u32 {
         self.slot
     }
 }
 
-/// An insert's answer. Three cases with three meanings: there is no "it failed", which could be read as "not yet".
-#[derive(Debug, PartialEq, Eq)]
-#[must_use = "whether the key is marked is in here"]
+/// An insert's answer. Three cases with three meanings, none of which is "it failed", which could be read as "not yet".
+/// They cannot be compared with `==` or `!=`: a `match` names all three.
+#[derive(Debug)]
+#[must_use = "whether the key is marked is in here: match all three cases"]
 pub enum Inserted {
-    /// Code 0: the key was absent, and this call marked it.
-    Told(Mark),
-    /// Code 5: the key was in the set before. It has had its text.
+    /// Code 0: the key was absent, and this call marked it. The mark is there before its text is: at most one text goes
+    /// out, and none if the mark is lost.
+    NewlyMarked(Mark),
+    /// Code 5: the key was in the set before. No text: it had its mark.
     KeyPresent,
     /// Code 7: the key is not in the set and no slots are left for it. Asking again changes nothing, until a delete
     /// makes room. No text may go: nothing would remember it.
@@ -120,7 +149,8 @@ impl Inserted {
 
 /// A delete's answer.
 #[derive(Clone, Copy, Debug, PartialEq, Eq)]
-#[must_use]
+#[must_use = "whether the key was in the set is in here"]
+#[non_exhaustive]
 pub enum Deleted {
     /// Code 0: the key was in the set and no longer is.
     Cleared {
@@ -133,7 +163,8 @@ pub enum Deleted {
 
 /// A step's answer.
 #[derive(Clone, Copy, Debug, PartialEq, Eq)]
-#[must_use]
+#[must_use = "whether the step was taken is in here"]
+#[non_exhaustive]
 pub enum Stepped {
     /// Code 0: the step was taken.
     Taken,
@@ -148,7 +179,7 @@ pub enum Stepped {
 impl Stepped {
     /// The code of [`Stepped::NoInnerNode`].
     pub const NO_INNER_NODE: u32 = 8;
-    /// "kind not 1 to 8"; no [`Kind`](crate::Kind) gets it.
+    /// "kind not 1 to 8"; no [`Kind`] gets it.
     pub const NO_KIND: u32 = 9;
     /// The code of [`Stepped::ConditionFalse`].
     pub const CONDITION_FALSE: u32 = 10;
@@ -158,7 +189,8 @@ impl Stepped {
 
 /// A settle's answer. Its steps stand in both cases.
 #[derive(Clone, Copy, Debug, PartialEq, Eq)]
-#[must_use]
+#[must_use = "whether the tree is red-black is in here"]
+#[non_exhaustive]
 pub enum Settled {
     /// Code 0: no step is allowed any more; the tree is red-black.
     RedBlack {
@@ -178,14 +210,15 @@ impl Settled {
 }
 
 /// A command of a batch with its answer. A refused command changed no pool word and did not stop those after it.
-#[derive(Debug, PartialEq, Eq)]
-#[must_use]
+#[derive(Debug)]
+#[must_use = "which keys were marked is in here"]
+#[non_exhaustive]
 #[allow(missing_docs)]
 pub enum Answer {
     Search { key: u32, answer: Searched },
     Insert { key: u32, answer: Inserted },
     Delete { key: u32, answer: Deleted },
-    Step { slot: u32, answer: Stepped },
+    Step { slot: u32, kind: Kind, answer: Stepped },
     Settle { budget: u32, answer: Settled },
 }
 
@@ -196,7 +229,7 @@ impl Answer {
             Command::Search { key } => Answer::Search { key, answer: Searched::read(code, number) },
             Command::Insert { key } => Answer::Insert { key, answer: Inserted::read(key, code, number) },
             Command::Delete { key } => Answer::Delete { key, answer: Deleted::read(code, number) },
-            Command::Step { slot, .. } => Answer::Step { slot, answer: Stepped::read(code) },
+            Command::Step { slot, kind } => Answer::Step { slot, kind, answer: Stepped::read(code) },
             Command::Settle { budget } => Answer::Settle { budget, answer: Settled::read(code, number) },
         }
     }
@@ -205,7 +238,7 @@ impl Answer {
 impl Searched {
     pub(crate) fn read(code: u32, number: u32) -> Searched {
         match code {
-            0 => Searched::Told { slot: number },
+            0 => Searched::Marked { slot: number },
             Searched::KEY_ABSENT => Searched::KeyAbsent,
             _ => foreign(code),
         }
@@ -215,7 +248,7 @@ impl Searched {
 impl Inserted {
     pub(crate) fn read(key: u32, code: u32, number: u32) -> Inserted {
         match code {
-            0 => Inserted::Told(Mark { key, slot: number }),
+            0 => Inserted::NewlyMarked(Mark { key, slot: number }),
             Inserted::KEY_PRESENT => Inserted::KeyPresent,
             Inserted::NO_ROOM => Inserted::NoRoom,
             _ => foreign(code),
@@ -259,4 +292,27 @@ impl Settled {
 #[cold]
 fn foreign(code: u32) -> ! {
     panic!("code {code} does not belong to this operation: the archive is not the chromatic library")
+}
+
+#[cfg(test)]
+mod tests {
+    extern crate std;
+    use super::*;
+    use std::panic::catch_unwind;
+
+    /// An operation's answer has the codes that are its own, and every other code stops the program.
+    #[test]
+    fn foreign_codes_stop() {
+        fn own(codes: &[u32], read: fn(u32)) {
+            for code in 0..30 {
+                assert_eq!(catch_unwind(|| read(code)).is_ok(), codes.contains(&code), "code {code}");
+            }
+        }
+        own(&[0, 1, 2, 3, 4], |code| assert_eq!(Refused::check(code, 0).map_or_else(Refused::code, |()| 0), code));
+        own(&[0, 6], |code| assert_eq!(Searched::read(code, 9) == Searched::KeyAbsent, code == 6));
+        own(&[0, 5, 7], |code| assert_eq!(matches!(Inserted::read(1, code, 9), Inserted::NewlyMarked(_)), code == 0));
+        own(&[0, 6], |code| assert_eq!(Deleted::read(code, 9) == Deleted::KeyAbsent, code == 6));
+        own(&[0, 8, 10, 11], |code| assert_eq!(Stepped::read(code) == Stepped::Taken, code == 0));
+        own(&[0, 12], |code| assert_eq!(Settled::read(code, 9) == Settled::RedBlack { steps: 9 }, code == 0));
+    }
 }

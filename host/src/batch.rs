@@ -1,6 +1,8 @@
 //! What the host asks: commands, and the bytes that carry them.
 
-/// The kind of a step, 1 to 8 in document 01's table. With this type code 9, "kind not 1 to 8", cannot occur.
+use core::fmt;
+
+/// The kind of a step, 1 to 8 in the table of docs/RULES.md. With this type code 9, "kind not 1 to 8", cannot occur.
 #[derive(Clone, Copy, Debug, PartialEq, Eq)]
 #[allow(missing_docs)]
 pub enum Kind {
@@ -19,8 +21,38 @@ impl Kind {
     pub const ALL: [Kind; 8] = [Kind::One, Kind::Two, Kind::Three, Kind::Four, Kind::Five, Kind::Six, Kind::Seven, Kind::Eight];
 }
 
-/// One command of a batch.
+impl From<Kind> for u32 {
+    fn from(kind: Kind) -> u32 {
+        kind as u32
+    }
+}
+
+impl TryFrom<u32> for Kind {
+    type Error = NoKind;
+
+    fn try_from(number: u32) -> Result<Kind, NoKind> {
+        Kind::ALL.into_iter().find(|&kind| u32::from(kind) == number).ok_or(NoKind { number })
+    }
+}
+
+/// A number that is no [`Kind`]: the kinds are 1 to 8.
 #[derive(Clone, Copy, Debug, PartialEq, Eq)]
+pub struct NoKind {
+    /// The number.
+    pub number: u32,
+}
+
+impl fmt::Display for NoKind {
+    fn fmt(&self, f: &mut fmt::Formatter<'_>) -> fmt::Result {
+        write!(f, "{} is no kind of step: the kinds are 1 to 8", self.number)
+    }
+}
+
+impl core::error::Error for NoKind {}
+
+/// One command of a batch. It does nothing before [`Pool::run`](crate::Pool::run).
+#[derive(Clone, Copy, Debug, PartialEq, Eq)]
+#[non_exhaustive]
 #[allow(missing_docs)]
 pub enum Command {
     Search { key: u32 },
@@ -34,7 +66,7 @@ pub enum Command {
 const LONGEST_NUMBER: usize = 5;
 
 impl Command {
-    /// The most bytes that one command takes: an operation and two arguments.
+    /// The most bytes that a command of a good batch takes: an operation and two arguments. (With a [`Kind`] it is 7.)
     pub const LONGEST: usize = 1 + 2 * LONGEST_NUMBER;
 
     /// The operation's number and its arguments; the second is missing where the operation has but one.
@@ -43,7 +75,7 @@ impl Command {
             Command::Search { key } => (1, key, None),
             Command::Insert { key } => (2, key, None),
             Command::Delete { key } => (3, key, None),
-            Command::Step { slot, kind } => (4, slot, Some(kind as u32)),
+            Command::Step { slot, kind } => (4, slot, Some(kind.into())),
             Command::Settle { budget } => (5, budget, None),
         }
     }
@@ -72,14 +104,22 @@ fn write_number(mut value: u32, bytes: &mut [u8]) -> usize {
     len + 1
 }
 
-/// The batch has its 256 commands: run it, and begin another. The command was not added.
+/// The batch has its 256 commands. The one that was pushed is not in it.
 #[derive(Clone, Copy, Debug, PartialEq, Eq)]
 pub struct Full;
 
-/// Commands to run in one call, in order.
+impl fmt::Display for Full {
+    fn fmt(&self, f: &mut fmt::Formatter<'_>) -> fmt::Result {
+        write!(f, "the batch has its {} commands: run it, and push this one into another", Batch::MOST)
+    }
+}
+
+impl core::error::Error for Full {}
+
+/// Commands to run in one call, in order. Pushing does nothing to a set: [`Pool::run`](crate::Pool::run) does.
 ///
-/// It writes numbers in their shortest form and holds at most 256 commands, and [`Pool::run`](crate::Pool::run) lends
-/// answer room for all of them, so that no batch built here is refused with code 3 or 4.
+/// It writes numbers in their shortest form and holds at most 256 commands, and `run` lends answer room for all of them,
+/// so that no batch built here is refused with code 3 or 4.
 #[derive(Clone)]
 pub struct Batch {
     commands: [Command; Batch::MOST],
@@ -97,42 +137,70 @@ impl Batch {
         Batch { commands: [Command::Search { key: 0 }; Batch::MOST], len: 0 }
     }
 
-    /// Adds a command. Its answer is the one at the same place in [`Answers`](crate::Answers).
-    pub fn add(&mut self, command: Command) -> Result<(), Full> {
+    /// Puts a command at the end. Its answer is the one at the same place in [`Answers`](crate::Answers).
+    ///
+    /// # Errors
+    /// [`Full`] if there are 256 commands already, and so for every `push_..`; the batch stays as it is.
+    pub fn push(&mut self, command: Command) -> Result<(), Full> {
         let place = self.commands.get_mut(self.len).ok_or(Full)?;
         *place = command;
         self.len += 1;
         Ok(())
     }
 
-    /// Adds "is the key in the set?"
-    pub fn search(&mut self, key: u32) -> Result<(), Full> {
-        self.add(Command::Search { key })
+    /// Pushes "is the key in the set?"
+    ///
+    /// # Errors
+    /// As [`Batch::push`].
+    pub fn push_search(&mut self, key: u32) -> Result<(), Full> {
+        self.push(Command::Search { key })
     }
 
-    /// Adds "mark the key".
-    pub fn insert(&mut self, key: u32) -> Result<(), Full> {
-        self.add(Command::Insert { key })
+    /// Pushes "mark the key".
+    ///
+    /// # Errors
+    /// As [`Batch::push`].
+    pub fn push_insert(&mut self, key: u32) -> Result<(), Full> {
+        self.push(Command::Insert { key })
     }
 
-    /// Adds "clear the key's mark".
-    pub fn delete(&mut self, key: u32) -> Result<(), Full> {
-        self.add(Command::Delete { key })
+    /// Pushes "clear the key's mark".
+    ///
+    /// # Errors
+    /// As [`Batch::push`].
+    pub fn push_delete(&mut self, key: u32) -> Result<(), Full> {
+        self.push(Command::Delete { key })
     }
 
-    /// Adds one step of balancing at a slot.
-    pub fn step(&mut self, slot: u32, kind: Kind) -> Result<(), Full> {
-        self.add(Command::Step { slot, kind })
+    /// Pushes one step of balancing at a slot.
+    ///
+    /// # Errors
+    /// As [`Batch::push`].
+    pub fn push_step(&mut self, slot: u32, kind: Kind) -> Result<(), Full> {
+        self.push(Command::Step { slot, kind })
     }
 
-    /// Adds balancing until no step is allowed or `budget` steps are taken.
-    pub fn settle(&mut self, budget: u32) -> Result<(), Full> {
-        self.add(Command::Settle { budget })
+    /// Pushes balancing until no step is allowed or `budget` steps are taken.
+    ///
+    /// # Errors
+    /// As [`Batch::push`].
+    pub fn push_settle(&mut self, budget: u32) -> Result<(), Full> {
+        self.push(Command::Settle { budget })
     }
 
-    /// The commands added so far.
+    /// The commands pushed so far.
     pub fn commands(&self) -> &[Command] {
         &self.commands[..self.len]
+    }
+
+    /// How many commands there are.
+    pub fn len(&self) -> usize {
+        self.len
+    }
+
+    /// Whether there is none.
+    pub fn is_empty(&self) -> bool {
+        self.len == 0
     }
 
     /// Takes all commands out again.
@@ -147,6 +215,13 @@ impl Batch {
             len += command.write(&mut bytes[len..]);
         }
         len
+    }
+}
+
+/// The commands as a list.
+impl fmt::Debug for Batch {
+    fn fmt(&self, f: &mut fmt::Formatter<'_>) -> fmt::Result {
+        f.debug_tuple("Batch").field(&self.commands()).finish()
     }
 }
 

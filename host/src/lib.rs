@@ -1,59 +1,101 @@
-//! The set of marks, for a Rust host: 32-bit keys held as a chromatic tree in words that the host lends.
+//! The set of marks, for a Rust host: 32-bit keys held as a chromatic tree in words that the host lends or hands over.
 //!
-//! The work is done by the proved library (`libchromatic.a`, found by `-L native=..`); this crate gives its four
-//! functions types. It allocates nothing, has no dependencies and keeps no state of its own.
+//! The work is done by the proved library, `libchromatic.a`, which the build script finds; this crate gives its functions
+//! types. It allocates nothing, has no dependencies and keeps no state of its own. How it is made a dependency stands in
+//! host/README.md.
 //!
-//! **A text goes out on a mark, and on nothing else.** A dispatcher once read "no room for the mark" as "not told
-//! yet" and sent 211 texts. So here an insert answers one of three cases that a `match` has to name, and only one of
-//! them holds a [`Mark`]; let your sending function take a `Mark` by value, and that fault no longer compiles:
+//! # A send that takes a mark
+//!
+//! A dispatcher once read "no room for the mark" as "not told yet" and sent one text 211 times more. Here an insert answers one
+//! of three cases, and one of them holds a [`Mark`]. **Let the function that sends take the mark:**
 //!
 //! ```
 //! use chromatic::{Inserted, Mark, Pool};
 //!
-//! fn send_text(mark: Mark) {
+//! fn send(mark: Mark) {
 //!     println!("text for key {}", mark.key());
 //! }
 //!
-//! let mut words = [0; Pool::words_for(9)];
-//! let mut pool = Pool::prepare(&mut words)?;
+//! let mut words = [0; Pool::words_for(127)]; // 127 slots hold 64 keys
+//! let mut pool = Pool::prepare(&mut words[..])?;
 //! match pool.insert(4411)? {
-//!     Inserted::Told(mark) => send_text(mark), // marked by this very call
-//!     Inserted::KeyPresent => {}               // told before
-//!     Inserted::NoRoom => panic!("the pool is full: nobody is told until marks are cleared"),
+//!     Inserted::NewlyMarked(mark) => send(mark),
+//!     Inserted::KeyPresent => println!("marked before: no text"),
+//!     Inserted::NoRoom => println!("cannot be marked: no text, call the desk"),
 //! }
 //! # Ok::<(), chromatic::Refused>(())
 //! ```
 //!
-//! A mark cannot be made up, one mark sends one text, and an answer that nobody reads is pointed out:
+//! What the types promise is this, and no more: *a send that takes a `Mark` needs an insert that made one.* With it these
+//! do not compile. Each is a file of tests/misuse, which `host/test` compiles with its fault and without.
 //!
-//! ```compile_fail,E0451
-//! let mark = chromatic::Mark { key: 1, slot: 1 };
-//! ```
-//! ```compile_fail,E0382
-//! fn twice(mark: chromatic::Mark) -> [chromatic::Mark; 2] {
-//!     [mark, mark]
-//! }
-//! ```
-//! ```compile_fail
-//! #![deny(unused_must_use)]
-//! fn unread(pool: &mut chromatic::Pool) -> Result<(), chromatic::Refused> {
-//!     pool.insert(4411)?;
-//!     Ok(())
-//! }
-//! ```
+//! | Fault | Error | File |
+//! |---|---|---|
+//! | `if pool.insert(key)? != Inserted::KeyPresent { .. }` | E0369: an insert's answer is not compared | `compared` |
+//! | search says absent, then `send(key)` | E0308: a key is no mark | `absent_then_send` |
+//! | `if !matches!(answer, Inserted::KeyPresent) { send(key) }` | E0308: a key is no mark | `not_key_present` |
+//! | a `match` without [`Inserted::NoRoom`] | E0004 | `no_room_forgotten` |
+//! | `send(mark); send(mark)` | E0382: a mark is used up | `sent_twice` |
+//! | `send(mark)` after [`Pool::withdraw`] | E0382 | `sent_after_withdrawal` |
+//! | `mark.clone()`; `answers.clone()`, whose marks would come twice | E0599 | `mark_cloned`, `answers_cloned` |
+//! | `Mark { key, slot }` | E0451 | `mark_made_up` |
+//! | `Mark::default()` | E0599 | `mark_by_default` |
+//! | preparing lent words again while their pool is in use | E0499 | `prepared_in_use` |
+//! | handing over an array, whose copy would get the mark | E0277 | `array_copied` |
+//! | `pool.insert(key)?;`, `pool.run(&batch)?;`, `raw::batch(..);`, and so for every command's answer | a warning, `unused_must_use`; make it an error in your crate | `insert_unread`, `answers_unread`, `raw_unread`, `each_unread` |
+//! | an array of `Pool::words_for(0)` or of `words_for(1024)` words | E0080 | `no_slots` |
+//! | a `match` without a rest on [`Refused`], [`Command`] or any answer but the insert's; a [`Report`] made up: they can grow | E0004, E0639 | `rest_forgotten`, `report_made_up` |
+//!
+//! # What still compiles
+//!
+//! No type of this crate can forbid these. Each is a file of tests/misuse too, which compiles and does what is said here.
+//!
+//! | Fault | What to do instead | File |
+//! |---|---|---|
+//! | a send that takes a key, after a search that says absent, and then `let _ = pool.insert(key)`: a full pool sends at every poll | `fn send(mark: Mark)`, and no other way to the gateway | `still_search_then_send` |
+//! | a send that takes a key, on `!matches!(.., KeyPresent)`: the same | the same | `still_not_key_present` |
+//! | a mark from another pool, made to get at a send | one pool for each sender; another is for another sender, or for tests | `still_scratch_pool` |
+//! | preparing anew on [`Inserted::NoRoom`]: every mark is gone, every text can go again | no text; call the desk; [`Pool::delete`] the keys of notices that are over, or begin with more slots | `still_prepared_again` |
+//! | sending by the words that [`Pool::run_bytes`] or [`raw`] fill, on whatever is not code 5 | [`Pool::run`], whose answers hold marks | `still_words_instead_of_marks` |
+//! | `if let Inserted::NewlyMarked(mark) = .. { send(mark) }` alone: a full pool looks like "marked before", and nobody calls the desk | `match` all three cases | `still_no_room_unseen` |
+//! | a send that borrows: `fn send(mark: &Mark)` (clippy's `needless_pass_by_value` proposes it), or a shared `Rc<Mark>` | take it by value, and allow that lint there | `still_mark_borrowed` |
+//! | keeping a mark while its key is deleted and marked again: both send; [`Pool::withdraw`] of the old one takes the later mark away; of another pool's, that key's mark here | send or withdraw a mark at once, and on its own pool | `still_old_mark_withdrawn` |
+//! | taking up older words: a copy of [`Pool::words`] from before the mark | store the words after the insert and before the text; never take up an older copy | `still_older_words_resumed` |
+//! | words of one's own type ([`Words`]) that are others each time | `&mut [u32]`, `Box<[u32]>` or `Vec<u32>` | `still_words_of_ones_own` |
+//! | leaving a loop over [`Answers`] by `break` or `?`: the texts of the rest are lost | read every answer; send each mark or withdraw it | `still_left_early` |
+//! | dropping a mark, or a list of answers by `let _ =`: texts are lost | send each mark or withdraw it | `still_mark_dropped` |
+//!
+//! # At most once
+//!
+//! A mark is set before its text goes out, in the words alone: who stores them does so after the insert and before the
+//! text. So a key gets at most one text for each insert that made a mark, and none at all if the process stops between
+//! the two, if the mark or a list of [`Answers`] is dropped, or if the gateway fails. Only the last can be mended by
+//! the host: [`Pool::withdraw`] takes the mark back, and a later insert makes another. If the gateway failed after the
+//! text went out, the key then gets it twice: withdraw only what surely did not go.
+//!
+//! # Errors
+//!
+//! [`Refused`], [`Full`] and [`NoKind`] are `core::error::Error`s whose text says what to do; `?` takes them into a
+//! `Box<dyn Error>`. The three cases of an insert are no errors: they are answers.
+//!
+//! # Panics
+//!
+//! A call panics if the archive gives a code that does not belong to the operation, which the library is proved not to do;
+//! [`Pool::words_for`] panics outside its range. Nothing else does.
 //!
 //! Lines that begin with "Proved:" name the library's theorems (docs/THEOREMS.md) that the sentence before rests on.
 #![no_std]
-#![deny(unsafe_op_in_unsafe_fn, missing_docs)]
+#![deny(unsafe_op_in_unsafe_fn, missing_docs, missing_debug_implementations)]
 
 mod answer;
 mod batch;
+mod layout;
 mod pool;
 pub mod raw;
 
 pub use answer::{Answer, Deleted, Inserted, Mark, Refused, Searched, Settled, Stepped};
-pub use batch::{Batch, Command, Full, Kind};
-pub use pool::{Answers, Pool, Report};
+pub use batch::{Batch, Command, Full, Kind, NoKind};
+pub use pool::{Answers, Pool, Report, Words};
 
 #[cfg(doctest)]
 #[doc = include_str!("../README.md")]

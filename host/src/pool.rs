@@ -1,27 +1,43 @@
-//! The lent pool and its calls.
+//! The pool and its calls.
 
-use crate::answer::{Answer, Deleted, Inserted, Refused, Searched, Settled, Stepped};
+use crate::answer::{Answer, Deleted, Inserted, Mark, Refused, Searched, Settled, Stepped};
 use crate::batch::{Batch, Command, Kind};
-use crate::raw;
+use crate::{layout, raw};
+use core::fmt;
+use core::iter::FusedIterator;
+use core::ops::DerefMut;
 
-const HEADER_WORDS: usize = 4;
-const SLOT_WORDS: usize = 4;
 const ANSWER_WORDS: usize = 2;
 
-/// A set of keys in lent words that passed the audit. While the pool lives nobody else can write the words, and every
-/// call keeps the audit rules, so they hold until it is dropped.
+/// What can hold a pool's words: lent ones (`&mut [u32]`) or ones that the pool owns (`Box<[u32]>`, `Vec<u32>`). It is
+/// there for all that dereferences to a slice of words, the same one each time. An array is lent as `&mut words[..]`; handed
+/// over it would be copied, and the marks with it, so that is not allowed.
+#[diagnostic::on_unimplemented(
+    message = "`{Self}` cannot hold a pool's words",
+    note = "lend an array as `&mut words[..]`; a pool can own a `Box<[u32]>` or a `Vec<u32>`"
+)]
+pub trait Words: DerefMut<Target = [u32]> {}
+
+impl<W: DerefMut<Target = [u32]>> Words for W {}
+
+/// A set of keys in words that passed the audit, lent (`Pool<&mut [u32]>`) or owned (`Pool<Box<[u32]>>`); a function over
+/// either takes `&mut Pool<impl Words>`. While the pool lives nobody else can write the words, and every call keeps the
+/// audit rules, so they hold until it is dropped.
+///
+/// A pool has C slots, from 1 to 1,023. C slots hold (C+1)/2 keys: 1 holds 1, 127 hold 64, 1,023 hold 512.
 ///
 /// Proved: `passes-after`, `history-passing` (a call leaves a pool that passes the audit).
-pub struct Pool<'w> {
-    words: &'w mut [u32],
+pub struct Pool<W> {
+    words: W,
 }
 
 /// The report's seven numbers.
 #[derive(Clone, Copy, Debug, PartialEq, Eq)]
+#[non_exhaustive]
 pub struct Report {
     /// N, the slots in the tree.
     pub nodes: u64,
-    /// L, the sum of weights from the root to any leaf.
+    /// L, the sum of weights from the root, whose own does not count, to any leaf.
     pub level: u64,
     /// Edges above weight 1; each counts once however heavy.
     pub overweighted: u64,
@@ -37,13 +53,15 @@ pub struct Report {
 
 impl Report {
     /// Keys in the set: the leaves among N nodes.
+    #[must_use]
     pub fn keys(&self) -> u64 {
-        self.nodes.div_ceil(2)
+        keys_of(self.nodes)
     }
 
     /// Whether no step is allowed.
     ///
     /// Proved: `none-accepted`, `some-accepted`.
+    #[must_use]
     pub fn red_black(&self) -> bool {
         self.conflicts == 0 && self.overweighted == 0
     }
@@ -52,75 +70,145 @@ impl Report {
     /// next insert or delete.
     ///
     /// Proved: `settle-enough`, `settle-falls`.
+    #[must_use]
     pub fn settle_budget(&self) -> u32 {
         u32::try_from(self.bound).unwrap_or(u32::MAX)
     }
 }
 
-impl<'w> Pool<'w> {
-    /// The words that a pool of `slots` slots has.
-    pub const fn words_for(slots: usize) -> usize {
-        HEADER_WORDS + SLOT_WORDS * slots
-    }
+/// The leaves of a tree of so many nodes.
+fn keys_of(nodes: u64) -> u64 {
+    nodes.div_ceil(2)
+}
 
-    /// Makes an empty set of any words. On [`Refused::WrongLength`], the only refusal, no word changes.
-    pub fn prepare(words: &'w mut [u32]) -> Result<Pool<'w>, Refused> {
-        Refused::check(raw::prepare(words), 0)?;
+/// Written `Pool::words_for`, whatever holds the words.
+impl Pool<&mut [u32]> {
+    /// The most slots of a pool, 1,023. They hold 512 keys.
+    pub const MOST_SLOTS: usize = layout::MOST_SLOTS;
+
+    /// The words of a pool of `slots` slots, which hold (slots + 1)/2 keys: 127 slots hold 64 keys. For K keys take
+    /// 2K - 1 slots.
+    ///
+    /// # Panics
+    /// If `slots` is not from 1 to 1,023. As an array's length it does not compile then.
+    #[must_use]
+    pub const fn words_for(slots: usize) -> usize {
+        layout::words_for(slots)
+    }
+}
+
+impl<W: Words> Pool<W> {
+    /// Makes an empty set of any words. **Every mark that was in them is gone**, and whoever had a text can get it again:
+    /// it is for new words, never an answer to [`Inserted::NoRoom`]. Words with a set in them go to [`Pool::resume`].
+    ///
+    /// # Errors
+    /// [`Refused::WrongLength`] alone; then no word changes. (Words that were handed over are dropped: lend them if you
+    /// need them afterwards.)
+    pub fn prepare(mut words: W) -> Result<Pool<W>, Refused> {
+        Refused::check(raw::prepare(&mut words), 0)?;
         Ok(Pool { words })
     }
 
-    /// Takes up words that hold a set from before: exactly those that keep every audit rule. Changes no word; refuses
-    /// with [`Refused::WrongLength`] or [`Refused::RulesBroken`].
+    /// Takes up words that hold a set from before: exactly those that keep every audit rule. Changes no word.
+    ///
+    /// # Errors
+    /// [`Refused::WrongLength`] or [`Refused::RulesBroken`]. (Words that were handed over are dropped then: lend them
+    /// first if a damaged pool is to be looked at.)
     ///
     /// Proved: `audit-exact`.
-    pub fn lend(words: &'w mut [u32]) -> Result<Pool<'w>, Refused> {
+    pub fn resume(words: W) -> Result<Pool<W>, Refused> {
         let pool = Pool { words };
         pool.audit()?;
         Ok(pool)
     }
 
-    /// The words as they are, to be stored or looked at.
+    /// The words as they are, to be stored or looked at. Stored words have the marks that were set by then: to be safe over
+    /// a restart, store them after the insert and before its text goes out, and never take up an older copy.
     pub fn words(&self) -> &[u32] {
+        &self.words
+    }
+
+    /// Gives the words back, with the set in them.
+    pub fn into_words(self) -> W {
         self.words
     }
 
-    /// C.
+    /// C, the slots, which hold (C+1)/2 keys.
     pub fn slots(&self) -> usize {
-        (self.words.len() - HEADER_WORDS) / SLOT_WORDS
+        layout::slots_in(self.words().len())
     }
 
-    /// How many keys fit. With this many in the set every further insert answers [`Inserted::NoRoom`].
+    /// How many keys fit, (C+1)/2. With this many in the set every insert of another answers [`Inserted::NoRoom`].
     pub fn most_keys(&self) -> usize {
         self.slots().div_ceil(2)
     }
 
     /// Looks through the whole pool again.
     ///
+    /// # Errors
+    /// [`Refused::RulesBroken`] if a rule is broken, [`Refused::WrongLength`] if the length is another: only a `W` of one's
+    /// own could have done that.
+    ///
     /// Proved: `audit-exact`.
     pub fn audit(&self) -> Result<(), Refused> {
-        Refused::check(raw::audit(self.words), 0)
+        Refused::check(raw::audit(self.words()), 0)
     }
 
-    /// The seven numbers, or why there are none. (The library's own report gives zeros then.)
+    /// The seven numbers, each from a call of its own.
+    ///
+    /// # Errors
+    /// As [`Pool::audit`]. (The library's own report gives zeros then.)
     pub fn report(&self) -> Result<Report, Refused> {
-        self.audit()?;
-        let number = |index| raw::report(self.words, index);
         Ok(Report {
-            nodes: number(1),
-            level: number(2),
-            overweighted: number(3),
-            conflicts: number(4),
-            over_distance: number(5),
-            red_distance: number(6),
-            bound: number(7),
+            nodes: self.figure(1)?,
+            level: self.number(2),
+            overweighted: self.number(3),
+            conflicts: self.number(4),
+            over_distance: self.number(5),
+            red_distance: self.number(6),
+            bound: self.number(7),
         })
     }
 
-    /// Runs the batch's commands in order. The answers come in the same order, one for each command. A refusal changes
-    /// nothing and runs nothing.
+    /// The report's seventh number alone: no more steps than this can be accepted before the next insert or delete.
     ///
-    /// Over any runs since [`Pool::prepare`], a search tells exactly the keys that were inserted with
-    /// [`Inserted::Told`] and not since deleted with [`Deleted::Cleared`].
+    /// # Errors
+    /// As [`Pool::audit`].
+    pub fn bound(&self) -> Result<u64, Refused> {
+        self.figure(7)
+    }
+
+    /// How many keys are in the set.
+    ///
+    /// # Errors
+    /// As [`Pool::audit`].
+    pub fn keys(&self) -> Result<u64, Refused> {
+        self.figure(1).map(keys_of)
+    }
+
+    /// One number of the report. The library gives 0 for a refused pool too, so a 0 is looked into.
+    fn figure(&self, index: u32) -> Result<u64, Refused> {
+        let number = self.number(index);
+        if number == 0 {
+            self.audit()?;
+        }
+        Ok(number)
+    }
+
+    fn number(&self, index: u32) -> u64 {
+        raw::report(self.words(), index)
+    }
+
+    /// Runs the batch's commands in order. The answers come in the same order, one for each command.
+    ///
+    /// **The marks are set when this returns, before any text goes out.** Read every answer: a list that is dropped, or
+    /// a loop that is left by `break` or `?`, leaves keys marked whose texts nobody sends.
+    ///
+    /// Over any runs since [`Pool::prepare`], a search finds exactly the keys that were inserted with
+    /// [`Inserted::NewlyMarked`] and not since deleted with [`Deleted::Cleared`].
+    ///
+    /// # Errors
+    /// As [`Pool::audit`]; then nothing ran.
     ///
     /// Proved: `history`, `refused-keeps`, `batch-decides`.
     pub fn run<'b>(&mut self, batch: &'b Batch) -> Result<Answers<'b>, Refused> {
@@ -132,15 +220,25 @@ impl<'w> Pool<'w> {
     }
 
     /// Runs a batch that is bytes already, into lent answer words: two for each command, a code and a number; later
-    /// words stay. A refusal changes no word of either.
+    /// words stay. No [`Mark`] comes of it: who sends by these words has to tell code 5 from code 7 without the types.
+    ///
+    /// # Errors
+    /// [`Refused::BadCommand`], [`Refused::FewAnswers`], or as [`Pool::audit`]; then no word of pool or answers changes.
     ///
     /// Proved: `refused-keeps`, `later-words`, `batch-decides`.
     pub fn run_bytes(&mut self, bytes: &[u8], answers: &mut [u32]) -> Result<(), Refused> {
-        let [code, number] = halves(raw::batch(self.words, bytes, answers));
+        let [code, number] = halves(raw::batch(&mut self.words, bytes, answers));
         Refused::check(code, number)
     }
 
-    /// Whether the key is in the set. Changes no word.
+    /// Whether the key is in the set. Changes no word. (It takes `&mut self` since it goes through the library's one call
+    /// for commands, which is lent the pool for writing.)
+    ///
+    /// It is for screens and reports. [`Searched::KeyAbsent`] is no leave to send: [`Pool::insert`] looks and marks in
+    /// one call, and says what to do when there is no room for the mark.
+    ///
+    /// # Errors
+    /// As [`Pool::audit`].
     ///
     /// Proved: `search-shows`, `history`.
     pub fn search(&mut self, key: u32) -> Result<Searched, Refused> {
@@ -148,7 +246,11 @@ impl<'w> Pool<'w> {
         Ok(Searched::read(code, number))
     }
 
-    /// Marks the key, unless it is marked already or there is no room. Only [`Inserted::Told`] changes words.
+    /// Marks the key, unless it is marked already or there is no room. Only [`Inserted::NewlyMarked`] changes words, and
+    /// it alone holds a [`Mark`]; the mark is set before the text goes out.
+    ///
+    /// # Errors
+    /// As [`Pool::audit`].
     ///
     /// Proved: `insert-shows`, `history`.
     pub fn insert(&mut self, key: u32) -> Result<Inserted, Refused> {
@@ -156,7 +258,23 @@ impl<'w> Pool<'w> {
         Ok(Inserted::read(key, code, number))
     }
 
-    /// Clears the key's mark. Only [`Deleted::Cleared`] changes words.
+    /// Takes back a mark whose text did not go out, so that a later insert can mark the key anew.
+    ///
+    /// It is a delete of the mark's key, so use it where the send failed, on the pool that made the mark. A mark whose key
+    /// was deleted and marked again since takes the later mark away, and the text can go twice.
+    ///
+    /// # Errors
+    /// As [`Pool::audit`]. The key stays marked then, and no text goes out for it.
+    ///
+    /// Proved: `delete-shows`, `history`.
+    pub fn withdraw(&mut self, mark: Mark) -> Result<Deleted, Refused> {
+        self.delete(mark.key())
+    }
+
+    /// Clears the key's mark. Only [`Deleted::Cleared`] changes words. The slots are used again.
+    ///
+    /// # Errors
+    /// As [`Pool::audit`].
     ///
     /// Proved: `delete-shows`, `history`.
     pub fn delete(&mut self, key: u32) -> Result<Deleted, Refused> {
@@ -166,6 +284,9 @@ impl<'w> Pool<'w> {
 
     /// Takes one step of balancing. Only [`Stepped::Taken`] changes words, and never which keys are in the set.
     ///
+    /// # Errors
+    /// As [`Pool::audit`].
+    ///
     /// Proved: `accepted-iff`, `step-inorder`.
     pub fn step(&mut self, slot: u32, kind: Kind) -> Result<Stepped, Refused> {
         let [code, _] = self.run_one(Command::Step { slot, kind })?;
@@ -174,6 +295,9 @@ impl<'w> Pool<'w> {
 
     /// Takes allowed steps, each at the lowest slot and there of the lowest kind, until none is left or `budget` are
     /// taken. Never changes which keys are in the set.
+    ///
+    /// # Errors
+    /// As [`Pool::audit`].
     ///
     /// Proved: `settle-shows`, `settle-says`.
     pub fn settle(&mut self, budget: u32) -> Result<Settled, Refused> {
@@ -190,13 +314,20 @@ impl<'w> Pool<'w> {
     }
 }
 
+/// The number of slots; the words are some thousands, and [`Pool::words`] has them.
+impl<W: Words> fmt::Debug for Pool<W> {
+    fn fmt(&self, f: &mut fmt::Formatter<'_>) -> fmt::Result {
+        f.debug_struct("Pool").field("slots", &self.slots()).finish_non_exhaustive()
+    }
+}
+
 /// Code and number of a batch call: "its code times 4,294,967,296 plus its number".
 fn halves(answer: u64) -> [u32; 2] {
     [(answer >> 32) as u32, answer as u32]
 }
 
-/// The answers to a batch, in its order; each is given out once.
-#[must_use = "which keys were marked is in here"]
+/// The answers to a batch, in its order; each is given out once. The marks in it are set already: read it to its end.
+#[must_use = "which keys were marked is in here: a dropped list loses their texts"]
 pub struct Answers<'b> {
     commands: &'b [Command],
     words: [u32; ANSWER_WORDS * Batch::MOST],
@@ -211,5 +342,22 @@ impl Iterator for Answers<'_> {
         let at = self.next * ANSWER_WORDS;
         self.next += 1;
         Some(Answer::read(command, self.words[at], self.words[at + 1]))
+    }
+
+    fn size_hint(&self) -> (usize, Option<usize>) {
+        let left = self.commands.len() - self.next;
+        (left, Some(left))
+    }
+}
+
+/// `len` is the number of answers that are not yet read.
+impl ExactSizeIterator for Answers<'_> {}
+
+impl FusedIterator for Answers<'_> {}
+
+/// How many answers are left, and to which commands. (An answer is given out once, and not by this.)
+impl fmt::Debug for Answers<'_> {
+    fn fmt(&self, f: &mut fmt::Formatter<'_>) -> fmt::Result {
+        f.debug_struct("Answers").field("left", &self.len()).field("to", &&self.commands[self.next..]).finish_non_exhaustive()
     }
 }

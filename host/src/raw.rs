@@ -1,11 +1,13 @@
-//! The library's four functions as they are declared in C, and over each a safe function on slices.
+//! The library's functions as they are declared in C, and over each a safe function on slices.
 //!
-//! Every declaration and all unsafe code of this crate stand here. Nothing checks a declaration against the library's
-//! source but the tests. The library has no precondition: each function answers for every input.
+//! Every declaration and all unsafe code of this crate stand here. That the archive is of the same interface, the linker
+//! says ([`interface`]); beyond that nothing checks a declaration against the library's source but the tests. The library
+//! has no precondition: each function answers for every input. What it answers are bare numbers, in which "key present"
+//! and "no room" differ by two: [`Pool`](crate::Pool) has types for them.
 
 mod c {
-    #[link(name = "chromatic", kind = "static")]
     extern "C" {
+        pub fn chromatic_interface_1() -> u32;
         pub fn chromatic_prepare(pool: *mut u32, pool_len: usize) -> u32;
         pub fn chromatic_audit(pool: *const u32, pool_len: usize) -> u32;
         pub fn chromatic_report(pool: *const u32, pool_len: usize, index: u32) -> u64;
@@ -20,8 +22,19 @@ mod c {
     }
 }
 
-/// Makes a pool empty. Gives 0; or 1, changing nothing, if the length is not 4 + 4C with C from 1 to 1,023.
+/// The number of the interface that this crate is made for, 1; docs/INTERFACE.md says what each number has. The library's
+/// function is named for it, and every function here calls it, so that an archive of another interface does not link.
+#[must_use]
+pub fn interface() -> u32 {
+    // SAFETY: it takes nothing and changes nothing.
+    unsafe { c::chromatic_interface_1() }
+}
+
+/// Makes a pool empty. Gives 0; or 1, changing nothing, if the length is not 4 + 4C with C from 1 to 1,023. (C slots hold
+/// (C+1)/2 keys, 127 hold 64.)
+#[must_use = "a refused pool is not prepared"]
 pub fn prepare(pool: &mut [u32]) -> u32 {
+    let _ = interface();
     // SAFETY: pointer and length are those of a live slice that is lent exclusively for the call.
     unsafe { c::chromatic_prepare(pool.as_mut_ptr(), pool.len()) }
 }
@@ -29,14 +42,18 @@ pub fn prepare(pool: &mut [u32]) -> u32 {
 /// Gives 0 if the pool keeps every audit rule, 1 for a wrong length, 2 for a broken rule.
 ///
 /// Proved: `audit-exact`.
+#[must_use = "whether the pool is sound is in here"]
 pub fn audit(pool: &[u32]) -> u32 {
+    let _ = interface();
     // SAFETY: pointer and length are those of a live slice that is lent for the call.
     unsafe { c::chromatic_audit(pool.as_ptr(), pool.len()) }
 }
 
 /// Number `index` of the report, 1 first: N, L, overweighted edges, R, D, Q, bound. Gives 0 for a refused pool and for
 /// any other index.
+#[must_use]
 pub fn report(pool: &[u32], index: u32) -> u64 {
+    let _ = interface();
     // SAFETY: pointer and length are those of a live slice that is lent for the call.
     unsafe { c::chromatic_report(pool.as_ptr(), pool.len(), index) }
 }
@@ -45,7 +62,9 @@ pub fn report(pool: &[u32], index: u32) -> u64 {
 /// changing nothing, a refusal's code (1, 3, 4 or 2, tried in that order) times 4,294,967,296 plus its number.
 ///
 /// Proved: `batch-decides`, `history`.
+#[must_use = "a refused call ran nothing, and its answer words are as they were"]
 pub fn batch(pool: &mut [u32], batch: &[u8], answers: &mut [u32]) -> u64 {
+    let _ = interface();
     // SAFETY: pointers and lengths are those of live slices; the two that are written are lent exclusively, so no two
     // overlap.
     unsafe { c::chromatic_batch(pool.as_mut_ptr(), pool.len(), batch.as_ptr(), batch.len(), answers.as_mut_ptr(), answers.len()) }

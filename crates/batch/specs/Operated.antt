@@ -1,5 +1,6 @@
--- One command on words, for this crate's private functions: what the function of its operation does to any words under a header, and
--- where its answer is written. That this is document 01's command where the words show a sound State is proved in proofs/.
+-- One command on words (RULES 8.2 and 8.3), for this crate's private functions: what the function of its operation does to any words
+-- under a header, and where its answer is written. That this is document 01's command where the words show a sound State is proved in
+-- proofs/.
 use mathlib.Core.List.{List}
 use lib.ListN.{set}
 use Prim.Native.Nat.{ℕ, _+_}
@@ -23,6 +24,6 @@ operated Settle a b p h = settleUnder p h a
 unfoldable pub performOn : Command → List ℕ → Header → Written
 performOn c p h = operated (c .operation) (c .first) (c .second) p h
 
--- "Each command fills two answer words, code and number": here from word i on. Past the end nothing is written.
+-- RULES 8.3: "Each command fills two answer words, code and number": here from word i on. Past the end nothing is written.
 unfoldable pub putAnswer : List ℕ → ℕ → Answer → List ℕ
 putAnswer out i a = set (set out i (codeOf a)) (i + 1) (numberOf a)

@@ -1,4 +1,4 @@
--- What a call knows before its commands run, for this crate's private functions: nothing refuses it.
+-- What a call knows before its commands run, for this crate's private functions: nothing refuses it. This page serves RULES 8.
 use mathlib.Core.Path.{_≡_}
 use mathlib.Core.Bool.{true}
 use mathlib.Core.List.{List}

@@ -1,5 +1,7 @@
 -- Each export's contract decides its result and every lent word. Assumes nothing.
 use Rattle.tree.proofs.Deciding.{DecidesResult, DecidesWords, equal}
+use Rattle.chromatic.proofs.chromatic_interface_1.Kinds as interface-kinds
+use Rattle.chromatic.proofs.chromatic_interface_1.Reads as interface-reads
 use Rattle.chromatic.proofs.chromatic_prepare.Kinds as prepare-kinds
 use Rattle.chromatic.proofs.chromatic_prepare.Reads as prepare-reads
 use Rattle.chromatic.proofs.chromatic_audit.Kinds as audit-kinds
@@ -8,6 +10,9 @@ use Rattle.chromatic.proofs.chromatic_report.Kinds as report-kinds
 use Rattle.chromatic.proofs.chromatic_report.Reads as report-reads
 use Rattle.chromatic.proofs.chromatic_batch.Kinds as batch-kinds
 use Rattle.chromatic.proofs.chromatic_batch.Reads as batch-reads
+
+pub interface-decides : DecidesResult 0 interface-kinds.ps interface-kinds.r interface-reads.Post
+interface-decides κs a x y e f p q = equal p q
 
 pub prepare-decides : DecidesResult 1 prepare-kinds.ps prepare-kinds.r prepare-reads.Post
 prepare-decides κs a x y e f p q = equal (p .0) (q .0)

@@ -1,4 +1,5 @@
-// What a host calls: prepare, audit, report and batch, on numbers and lent slices. Each takes any words and any bytes.
+// What a host calls: prepare, audit, report and batch, on numbers and lent slices. Each takes any words and any bytes. And one function whose
+// name carries the number of the interface.
 use pool::audit;
 use pool::prepare;
 use report::report;
@@ -6,10 +7,21 @@ ghost use mathlib.Core.Path.{_≡_};
 ghost use Rattle.encoding.specs.Batch.{batch as call};
 ghost use Rattle.format.specs.Audit.{auditCode};
 ghost use Rattle.pool.specs.Results.{prepareCode, preparedWords};
-ghost use Rattle.chromatic.specs.Exports.{numberAt, returned};
+ghost use Rattle.chromatic.specs.Exports.{numberAt, returned, interfaceNumber};
 
 // 01: "The exported batch returns its code times 4,294,967,296 plus its number."
 const CODE_UNIT: u64 = 4294967296;
+
+const INTERFACE: u32 = 1;
+
+// A host that was made for another interface calls another name, and does not link. The number goes up, here and in the name, with each
+// change of a signature, of what a number means, of the pool's words or of what is accepted.
+#[no_mangle]
+pub extern "C" fn chromatic_interface_1() -> u32
+    ensures number { λ r. ⌜ r ≡ interfaceNumber ⌝ }
+{
+    INTERFACE
+}
 
 // 0, or 1 when the pool's length is wrong.
 #[no_mangle]

@@ -1,5 +1,5 @@
--- Document 01, code 3: in which ways a command is bad, and where the first bad one of a batch begins. (That the reader refuses exactly
--- these, and just there, is `bad-exactly`.)
+-- Document 01, code 3: in which ways a command is bad, and where the first bad one of a batch begins (RULES 7). (That the reader refuses
+-- exactly these, and just there, is `bad-exactly`.)
 use mathlib.Core.Path.{_≡_}
 use mathlib.Core.Logic.{_≢_}
 use mathlib.Core.List.{List, [], _∷_}
@@ -14,7 +14,8 @@ use Rattle.encoding.specs.Operations.{operationNumber, arguments}
 use Rattle.encoding.specs.Batch.{mostCommands, commandAt}
 use Rattle.numbers.specs.Faults.{BadNumber}
 
--- "a command is unknown, cut short, not in shortest form, too large": the command that begins at place i, by its first bad number.
+-- RULES 7.6: "a command is unknown, cut short, not in shortest form, too large": the command that begins at place i, by its first bad
+-- number.
 pub data BadCommand (bytes : List ℕ) (i : ℕ) : Type 0 where
   bad-operation : BadNumber bytes i → BadCommand bytes i
   unknown : {n next : ℕ} → number bytes i ≡ Read n next → ((o : Operation) → n ≢ operationNumber o) → BadCommand bytes i
@@ -32,6 +33,6 @@ pub data BadFrom (bytes : List ℕ) (n i j : ℕ) : Type 0 where
   bad-one : {cs : List Command} → StandTo bytes i cs j → length cs < n → j < length bytes → BadCommand bytes j → BadFrom bytes n i j
   too-many : {cs : List Command} → StandTo bytes i cs j → length cs ≡ n → j < length bytes → BadFrom bytes n i j
 
--- ".. or the 257th", with the "byte, counted from 0, where the first such command begins"
+-- RULES 7.6: ".. or the 257th", with the "byte, counted from 0, where the first such command begins"
 abbrev pub FirstBad : List ℕ → ℕ → Type 0
 FirstBad bytes j = BadFrom bytes mostCommands 0 j

@@ -1,4 +1,4 @@
--- The bytes of commands, as a writer writes them: what a good batch is, read the other way.
+-- The bytes of commands, as a writer writes them (RULES 7): what a good batch is, read the other way.
 use mathlib.Core.Path.{_≡_}
 use mathlib.Core.Bool.{Bool, true, false}
 use mathlib.Core.List.{List, [], _∷_, _++_}
@@ -14,7 +14,7 @@ use Rattle.numbers.specs.Shortest.{bytesOf}
 unfoldable pub secondBytes : Operation → ℕ → List ℕ
 secondBytes o b = elim (eqb (arguments o) 1) [ true ↦ [] | false ↦ bytesOf b ]
 
--- "A command is an operation number and its arguments."
+-- RULES 7.4 and 7.5: "A command is an operation number and its arguments."
 unfoldable pub commandBytes : Command → List ℕ
 commandBytes c = bytesOf (operationNumber (c .operation)) ++ (bytesOf (c .first) ++ secondBytes (c .operation) (c .second))
 

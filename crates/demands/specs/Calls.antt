@@ -1,5 +1,5 @@
--- Sequences of batch calls and their log: each command that ran, with the two answer words that it got. All of it can be seen from
--- outside: bytes, answer words, codes. What the demands say of such sequences is proved in proofs/.
+-- Sequences of batch calls and their log (RULES 13): each command that ran, with the two answer words that it got. All of it can be seen
+-- from outside: bytes, answer words, codes. What the demands say of such sequences is proved in proofs/.
 use mathlib.Core.Path.{_≡_}
 use mathlib.Core.Logic.{_≢_, _↔_, _⊎_}
 use mathlib.Core.Bool.{Bool, true, false, _&&_}
@@ -49,8 +49,8 @@ isOf o e = eqb (operationNumber (e .command .operation)) (operationNumber o)
 unfoldable pub accepted : Operation → ℕ → Entry → Bool
 accepted o x e = isOf o e && eqb (e .command .first) x && eqb (e .code) 0
 
--- Demand 2: the keys "inserted with code 0 and not since deleted with code 0". Whether x is one after an entry (1, or 0), if `before`
--- says whether it was one before; and after a whole log.
+-- Demand 2 (RULES 13.2), in the demand's own words: the keys "inserted with code 0 and not since deleted with code 0". Whether x is one
+-- after an entry (1, or 0), if `before` says whether it was one before; and after a whole log.
 unfoldable pub tells : ℕ → Entry → ℕ → ℕ
 tells x e before = elim (accepted Insert x e) [ true ↦ 1 | false ↦ elim (accepted Delete x e) [ true ↦ 0 | false ↦ before ] ]
 
@@ -84,7 +84,7 @@ pub record SearchTells (is-told given : ℕ) : Type 0 where
   pub done-when : (given ≡ 0) ↔ (is-told ≡ 1)
   pub absent-when : (given ≡ code KeyAbsent) ↔ (is-told ≡ 0)
 
--- Demand 3: the accepted steps of an entry, a step with code 0 or the steps that a settle reports; and of a whole log.
+-- Demand 3 (RULES 13.3): the accepted steps of an entry, a step with code 0 or the steps that a settle reports; and of a whole log.
 unfoldable pub stepsOf : Entry → ℕ
 stepsOf e = elim (isOf Step e && eqb (e .code) 0) [ true ↦ 1 | false ↦ elim (isOf Settle e) [ true ↦ e .number | false ↦ 0 ] ]
 
@@ -101,6 +101,6 @@ unfoldable pub NoUpdates : List Entry → Type 0
 NoUpdates [] = Unit {0}
 NoUpdates (e ∷ log) = NoUpdate e × NoUpdates log
 
--- the pool's words after these commands, which run on words that pass the audit
+-- Demand 1 (RULES 13.1) of a command: the pool's words after these commands, which run on words that pass the audit
 unfoldable pub poolAfter : List Command → List ℕ → List ℕ
 poolAfter cs p = wordsOf (runAll cs (stateOf p))

@@ -1,4 +1,5 @@
--- Document 01, The batch: commands, their reading, a call's refusals in order, and what a call leaves in the pool and the answers.
+-- Document 01, The batch: commands and their reading (RULES 7), a call's refusals in order, and what a call leaves in the pool and the
+-- answers (RULES 8, 9).
 use mathlib.Core.Path.{_≡_}
 use mathlib.Core.Bool.{Bool, true, false, not}
 use mathlib.Core.List.{List, [], _∷_, _++_}
@@ -26,7 +27,7 @@ use Rattle.tree.specs.Codes.{code, codeOf, numberOf}
 use Rattle.tree.specs.State.{State, Outcome, search, insert, delete, step}
 use Rattle.tree.specs.Settle.{settle}
 
--- "At most 256 commands."
+-- RULES 7.5: "At most 256 commands."
 abbrev pub mostCommands : ℕ
 mostCommands = 256
 
@@ -60,7 +61,7 @@ unfoldable pub operationAt : List ℕ → ℕ → Number → Reading
 operationAt bytes i (Read n next) = meantAt bytes i next (which n)
 operationAt bytes i (Wrong j) = Fault j
 
--- "A command is an operation number and its arguments."
+-- RULES 7.4: "A command is an operation number and its arguments."
 unfoldable pub commandAt : List ℕ → ℕ → Reading
 commandAt bytes i = operationAt bytes i (number bytes i)
 
@@ -73,7 +74,7 @@ unfoldable pub after : Command → Batch → Batch
 after c (commands cs) = commands (c ∷ cs)
 after c (badAt i) = badAt i
 
--- The commands from place i on, at most n. Code 3: "a command is unknown, cut short, not in shortest form, too large, or the
+-- RULES 7.6: the commands from place i on, at most n. Code 3: "a command is unknown, cut short, not in shortest form, too large, or the
 -- 257th", with the "byte, counted from 0, where the first such command begins".
 unfoldable pub readFrom : ℕ → List ℕ → ℕ → Batch
 readFrom zero bytes i = elim (leb (length bytes) i) [ true ↦ commands [] | false ↦ badAt i ]
@@ -85,7 +86,7 @@ readFrom (suc n) bytes i = elim (leb (length bytes) i) [
 unfoldable pub readBatch : List ℕ → Batch
 readBatch bytes = readFrom mostCommands bytes 0
 
--- What a command does: the one table of what the operations mean.
+-- What a command does (RULES 7.3): the one table of what the operations mean.
 unfoldable pub operation : Operation → ℕ → ℕ → State → Outcome
 operation Search a b S = search a S
 operation Insert a b S = insert a S
@@ -96,7 +97,7 @@ operation Settle a b S = settle a S
 unfoldable pub perform : Command → State → Outcome
 perform c S = operation (c .operation) (c .first) (c .second) S
 
--- "Commands run in order and a refused command does not stop the rest": the answers, and the State after the last.
+-- RULES 8.2: "Commands run in order and a refused command does not stop the rest": the answers, and the State after the last.
 unfoldable pub answersOf : List Command → State → List Answer
 answersOf [] S = []
 answersOf (c ∷ cs) S = (perform c S) .answer ∷ answersOf cs ((perform c S) .after)
@@ -105,7 +106,7 @@ unfoldable pub runAll : List Command → State → State
 runAll [] S = S
 runAll (c ∷ cs) S = runAll cs ((perform c S) .after)
 
--- "Each command fills two answer words, code and number; later words stay."
+-- RULES 8.3: "Each command fills two answer words, code and number; later words stay."
 unfoldable pub answerWords : List Answer → List ℕ
 answerWords [] = []
 answerWords (a ∷ rest) = codeOf a ∷ numberOf a ∷ answerWords rest
@@ -120,22 +121,22 @@ pub record Call : Type 0 where
   pub pool : List ℕ
   pub answers : List ℕ
 
--- "A call that is not refused gives 0 and number 0 itself."
+-- RULES 8.2 and 9.0: "A call that is not refused gives 0 and number 0 itself."
 unfoldable pub called : List Command → List ℕ → List ℕ → Call
 called cs p out =
     let S = stateOf p in
     record { code = 0; number = 0; pool = wordsOf (runAll cs S); answers = filled (answersOf cs S) out }
 
--- "Codes 1 to 4 refuse the call, in the order 1, 3, 4, 2, and change no word."
+-- RULES 8.1: "Codes 1 to 4 refuse the call, in the order 1, 3, 4, 2, and change no word."
 unfoldable pub refused : Refusal → ℕ → List ℕ → List ℕ → Call
 refused f n p out = record { code = code f; number = n; pool = p; answers = out }
 
--- 3, then 4; where neither is there, `rest` of the commands.
+-- 3, then 4 (RULES 9.3 and 9.4); where neither is there, `rest` of the commands.
 unfoldable pub batchRead : Batch → List ℕ → List ℕ → (List Command → Call) → Call
 batchRead (badAt i) p out rest = refused BadCommand i p out
 batchRead (commands cs) p out rest = elim (ltb (length out) (2 * length cs)) [ true ↦ refused FewAnswers 0 p out | false ↦ rest cs ]
 
--- The audit says 1 before them and 2 after them.
+-- The audit says 1 before them and 2 after them (RULES 9.1 and 9.2).
 unfoldable pub batch : List ℕ → List ℕ → List ℕ → Call
 batch p bytes out = elim (audited p) [
   | Length ↦ refused PoolLength 0 p out

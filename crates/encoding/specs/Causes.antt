@@ -1,5 +1,6 @@
--- Document 01's table of codes for a command, rows 5 to 12, and the numbers beside them: column "Given exactly when" and column
--- "Number", over the State that the commands before it left. (Rows 1 to 4 refuse a whole call: crate demands' Ends.antt.)
+-- Document 01's table of codes for a command, rows 5 to 12 (RULES 9), and the numbers beside them: column "Given exactly when" and column
+-- "Number", over the State that the commands before it left; which code is given (RULES 8). (Rows 1 to 4 refuse a whole call: crate
+-- demands' Ends.antt.)
 use mathlib.Core.Path.{_≡_}
 use mathlib.Core.Bool.{false}
 use lib.ListN.{length}
@@ -20,35 +21,35 @@ stepsTaken budget S = elim (S .top) [ empty ↦ 0 | full t ↦ length (treesAfte
 
 -- Operation o with the arguments a and b meets the cause of code n.
 pub data Cause (a b : ℕ) (S : State) : Operation → ℕ → Type 0 where
-  -- 5 "insert: key present"
+  -- 5 (RULES 9.5) "insert: key present"
   key-present : isIn a S ≡ 1 → Cause a b S Insert 5
-  -- 6 "search or delete: key absent"
+  -- 6 (RULES 9.6) "search or delete: key absent"
   search-absent : isIn a S ≡ 0 → Cause a b S Search 6
   delete-absent : isIn a S ≡ 0 → Cause a b S Delete 6
-  -- 7 "insert: fewer free slots than needed (1 if empty, else 2)"
+  -- 7 (RULES 9.7) "insert: fewer free slots than needed (1 if empty, else 2)"
   room-lacking : length (S .free) < slotsNeeded (S .top) → Cause a b S Insert 7
-  -- 8 "step: slot is 0, above C, free or a leaf"
+  -- 8 (RULES 9.8) "step: slot is 0, above C, free or a leaf"
   slot-0 : a ≡ 0 → Cause a b S Step 8
   slot-above : S .slots < a → Cause a b S Step 8
   slot-free : 1 ≤ countIn a (S .free) → Cause a b S Step 8
   slot-leaf : {t : Tree} {k : ℕ} → S .top ≡ full t → LeafIn a k t → Cause a b S Step 8
-  -- 9 "step: kind not 1 to 8"
+  -- 9 (RULES 9.9) "step: kind not 1 to 8"
   kind-0 : b ≡ 0 → Cause a b S Step 9
   kind-above : 8 < b → Cause a b S Step 9
-  -- 10 "step: condition false"
+  -- 10 (RULES 9.10) "step: condition false"
   condition-false : {t : Tree} (k : Kind) → S .top ≡ full t → b ≡ kindNumber k → conditionAt k a t ≡ false → Cause a b S Step 10
-  -- 11 "kind 1 at the root with L = 255"
+  -- 11 (RULES 9.11) "kind 1 at the root with L = 255"
   at-limit : {t : Tree} → S .top ≡ full t → b ≡ 1 → a ≡ slotOf t → level t ≡ mostLevel → Cause a b S Step 11
-  -- 12 "settle: budget spent and a step still allowed": "a slot and kind that would be accepted"
+  -- 12 (RULES 9.12) "settle: budget spent and a step still allowed": "a slot and kind that would be accepted"
   still-allowed : (s n : ℕ) → stepsTaken a S ≡ a → (step s n ((settle a S) .after)) .answer ≡ Done n → Cause a b S Settle 12
 
--- "lowest code first": the code that is given; 0 where no cause is there
+-- RULES 8.4: "lowest code first": the code that is given; 0 where no cause is there (RULES 9.0)
 pub data FirstCause (a b : ℕ) (S : State) (o : Operation) : ℕ → Type 0 where
   no-cause : ((m : ℕ) → Cause a b S o m → ⊥) → FirstCause a b S o 0
   first-cause : {n : ℕ} → Cause a b S o n → ((m : ℕ) → m < n → Cause a b S o m → ⊥) → FirstCause a b S o n
 
--- The number beside code n; T is the State after. "Numbers on code 0: search, the leaf's slot; insert, the new key's slot; delete, keys
--- left; step, the kind; settle, steps taken."
+-- The number beside code n (RULES 9.0, 9.5 to 9.12); T is the State after. "Numbers on code 0: search, the leaf's slot; insert, the new
+-- key's slot; delete, keys left; step, the kind; settle, steps taken."
 pub data Numbered (a b : ℕ) (S T : State) : Operation → ℕ → ℕ → Type 0 where
   leaf-slot : {s : ℕ} {t : Tree} → S .top ≡ full t → LeafIn s a t → Numbered a b S T Search 0 s
   new-slot : {s : ℕ} {t : Tree} → T .top ≡ full t → LeafIn s a t → Numbered a b S T Insert 0 s

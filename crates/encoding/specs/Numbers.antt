@@ -1,4 +1,4 @@
--- Document 01, The batch: numbers in seven-bit groups.
+-- Document 01, The batch (RULES 7): numbers in seven-bit groups.
 use mathlib.Core.Path.{_≡_}
 use mathlib.Core.Bool.{Bool, true, false, not, _&&_}
 use mathlib.Core.List.{List, [], _∷_}
@@ -8,7 +8,7 @@ use Prim.Native.Nat.{ℕ, zero, suc, _+_, _*_, _-_, _<_}
 use Rattle.encoding.specs.declared.Number.{Number}
 use Rattle.encoding.specs.declared.Number.the-variants.{Read, Wrong}
 
--- A last group d at place i. "Only the shortest form": a last group of 0 stands alone, or the byte before it was the last.
+-- RULES 7.2: a last group d at place i. "Only the shortest form": a last group of 0 stands alone, or the byte before it was the last.
 unfoldable pub lastGroup : Bool → ℕ → ℕ → Number
 lastGroup first d i = elim (not first && eqb d 0) [ true ↦ Wrong i | false ↦ Read d (i + 1) ]
 
@@ -17,10 +17,10 @@ unfoldable pub below : ℕ → Number → Number
 below d (Read v next) = Read (d + 128 * v) next
 below d (Wrong i) = Wrong i
 
--- "Numbers are seven-bit groups, lowest first, top bit set when more follow. Only the shortest form, at most 4,294,967,295."
+-- RULES 7.1: "Numbers are seven-bit groups, lowest first, top bit set when more follow. Only the shortest form, at most 4,294,967,295."
 -- The number whose groups begin at place i; `more` groups may follow the one there. The fifth group is a last one of at most
--- 15, or the number is too large. Where it goes wrong: the fifth byte if above 0F, the end of the input if cut short, the last
--- byte if not in shortest form.
+-- 15, or the number is too large. Where it goes wrong (RULES 7.2): the fifth byte if above 0F, the end of the input if cut
+-- short, the last byte if not in shortest form.
 unfoldable pub groups : ℕ → Bool → List ℕ → ℕ → Number
 groups zero first bytes i = elim (leb (length bytes) i) [
   | true ↦ Wrong (length bytes)

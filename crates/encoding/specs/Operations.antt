@@ -1,4 +1,4 @@
--- Document 01, The batch: the table of operations, each with its number and how many arguments it has. The one place for it.
+-- Document 01, The batch (RULES 7): the table of operations, each with its number and how many arguments it has. The one place for it.
 use mathlib.Core.List.{List, [], _∷_}
 use mathlib.Core.Option.{none, some}
 use lib.ListN.{getElem?}
@@ -8,7 +8,7 @@ use Rattle.encoding.specs.declared.Operation.the-variants.{Search, Inser
 use Rattle.encoding.specs.declared.Which.{Which}
 use Rattle.encoding.specs.declared.Which.the-variants.{Known, Unknown}
 
--- "1 search key; 2 insert key; 3 delete key; 4 step slot kind; 5 settle budget"
+-- RULES 7.3: "1 search key; 2 insert key; 3 delete key; 4 step slot kind; 5 settle budget"
 abbrev pub operationNumber : Operation → ℕ
 operationNumber Search = 1
 operationNumber Insert = 2

@@ -1,5 +1,6 @@
--- Document 01, Audit rules, on the words themselves: one definition a bullet, over what is found by following the words under a header
--- h, by value. Where the header lies is said at the end, where a pool is audited.
+-- Document 01, Audit rules (RULES 2), on the words themselves: one definition a bullet, over what is found by following the words under a
+-- header h, by value. Where the header lies is said at the end, where a pool is audited, with the codes (RULES 9) and what the exported
+-- audit returns (RULES 10).
 use mathlib.Core.Bool.{Bool, true, false, not, _&&_, _||_}
 use mathlib.Core.List.{List, [], _∷_, _++_}
 use lib.Dec.{eqb, leb, ltb}
@@ -69,14 +70,16 @@ unfoldable pub same : Bool → Bool → Bool
 same true b = b
 same false b = not b
 
--- "Every slot is in the tree exactly once or on the free chain exactly once, never both. N is right. Root is 0 exactly when N is 0."
+-- RULES 2.2: "Every slot is in the tree exactly once or on the free chain exactly once, never both. N is right. Root is 0 exactly when N
+-- is 0."
 unfoldable pub rule-once : Header → List ℕ → Bool
 rule-once h p =
     allFrom (λ s. eqb (countIn s (slotsOf (treeFound h p)) + countIn s (chainFound h p)) 1) 1 (slotsIn p)
     && eqb (h .nodes) (length (slotsOf (treeFound h p)))
     && same (eqb (h .root) 0) (eqb (h .nodes) 0)
 
--- "A free slot is 0, next free slot (0 at the end), 0, 4,294,967,295." (A slot that the chain shares with the tree breaks the first rule.)
+-- RULES 2.3: "A free slot is 0, next free slot (0 at the end), 0, 4,294,967,295." (A slot that the chain shares with the tree breaks
+-- RULES 2.2.)
 unfoldable pub freeWords : List ℕ → ℕ → Bool
 freeWords p s = let c = slotAt p s in eqb (c .key) 0 && eqb (c .right) 0 && eqb (c .weight) freeWeight
 
@@ -85,7 +88,7 @@ rule-free h p =
     all (λ s. not (eqb (countIn s (slotsOf (treeFound h p))) 0) || freeWords p s) (chainFound h p)
     && chainEnds (suc (slotsIn p)) p (h .free)
 
--- "A leaf has left and right 0; an inner node has both from 1 to C."
+-- RULES 2.4: "A leaf has left and right 0; an inner node has both from 1 to C."
 unfoldable pub children : List ℕ → Found → Bool
 children p nothing = true
 children p (found s c l r) = (bare c || isSlot p (c .left) && isSlot p (c .right)) && children p l && children p r
@@ -93,7 +96,7 @@ children p (found s c l r) = (bare c || isSlot p (c .left) && isSlot p (c .right
 unfoldable pub rule-children : Header → List ℕ → Bool
 rule-children h p = children p (treeFound h p)
 
--- "Leaf keys in a left subtree are at most the router; leaf keys in a right subtree are greater."
+-- RULES 2.5: "Leaf keys in a left subtree are at most the router; leaf keys in a right subtree are greater."
 unfoldable pub leafKeys : Found → List ℕ
 leafKeys nothing = []
 leafKeys (found s c l r) = elim (bare c) [ true ↦ c .key ∷ [] | false ↦ leafKeys l ++ leafKeys r ]
@@ -105,7 +108,7 @@ routed (found s c l r) = all (λ k. leb k (c .key)) (leafKeys l) && all (λ k. l
 unfoldable pub rule-order : Header → List ℕ → Bool
 rule-order h p = routed (treeFound h p)
 
--- "Weights are 0 to 255. The root's is 1 and counts in nothing. A leaf that is not the root has at least 1."
+-- RULES 2.6: "Weights are 0 to 255. The root's is 1 and counts in nothing. A leaf that is not the root has at least 1."
 unfoldable pub wellWeighed : Found → Bool
 wellWeighed nothing = true
 wellWeighed (found s c l r) = leb (c .weight) mostLevel && (not (bare c) || leb 1 (c .weight)) && wellWeighed l && wellWeighed r
@@ -117,7 +120,7 @@ rootWeighed (found s c l r) = eqb (c .weight) 1 && wellWeighed l && wellWeighed 
 unfoldable pub rule-weights : Header → List ℕ → Bool
 rule-weights h p = rootWeighed (treeFound h p)
 
--- "From root to leaf the weights, root's left out, add up to the same number L for every leaf, and L is at most 255."
+-- RULES 2.7: "From root to leaf the weights, root's left out, add up to the same number L for every leaf, and L is at most 255."
 -- Each leaf's sum, n being the sum on the way to the node's parent.
 unfoldable pub sumsOf : ℕ → Found → List ℕ
 sumsOf n nothing = []
@@ -130,11 +133,11 @@ rootSums (found s c l r) = elim (bare c) [ true ↦ 0 ∷ [] | false ↦ sumsOf 
 unfoldable pub rule-sums : Header → List ℕ → Bool
 rule-sums h p = let sums = rootSums (treeFound h p) in all (λ n. eqb n (headOf sums)) sums && leb (headOf sums) mostLevel
 
--- The header's fourth word, "one word that is 0", has a rule of its own: no bullet names it.
+-- RULES 2.1: the header's fourth word, "one word that is 0", has a rule of its own: no bullet names it.
 unfoldable pub rule-spare : Header → Bool
 rule-spare h = eqb (h .spare) 0
 
--- The rules in 01's order, the header's word first. Code 2: "audit rules broken".
+-- The rules in 01's order, the header's word first (RULES 2.1 to 2.7). Code 2 (RULES 9.2): "audit rules broken".
 unfoldable pub rules : Header → List ℕ → List Bool
 rules h p =
     rule-spare h ∷ rule-once h p ∷ rule-free h p ∷ rule-children h p ∷ rule-order h p ∷ rule-weights h p ∷ rule-sums h p ∷ []
@@ -169,8 +172,8 @@ rulesHold p = rulesUnder (headerOf p) p
 abbrev pub stateOf : List ℕ → State
 stateOf p = stateUnder (headerOf p) p
 
--- All that the audit learns, and the one order of refusals 1 and 2. 1: "pool length is not 4 + 4C"; 2: "audit rules broken"; or the
--- header and L of what the words show.
+-- RULES 2.8: all that the audit learns, and the one order of refusals 1 and 2 (RULES 9.1 and 9.2). 1: "pool length is not 4 + 4C";
+-- 2: "audit rules broken"; or the header and L of what the words show.
 unfoldable pub audited : List ℕ → Audited
 audited p = elim (lengthGood p) [
   | false ↦ Length
@@ -182,6 +185,6 @@ auditedCode Length = code PoolLength
 auditedCode Broken = code RulesBroken
 auditedCode (Passed h l) = 0
 
--- "audit [gives] 0, 1 or 2"
+-- RULES 10.1: "audit [gives] 0, 1 or 2"
 unfoldable pub auditCode : List ℕ → ℕ
 auditCode p = auditedCode (audited p)

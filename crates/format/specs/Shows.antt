@@ -1,4 +1,4 @@
--- Words and States meet here: the words of a pool show a State.
+-- Words and States meet here (RULES 1): the words of a pool show a State.
 use mathlib.Core.Path.{_≡_}
 use mathlib.Core.List.{List, [], _∷_}
 use lib.ListN.{length}
@@ -29,7 +29,8 @@ pub data Chain (p : List ℕ) : ℕ → List ℕ → Type 0 where
   chain-end : Chain p 0 []
   chain-more : {s n : ℕ} {fs : List ℕ} → At p s (freeSlot n) → Chain p n fs → Chain p s (s ∷ fs)
 
--- The header h, by value, and the words of the slots in p show S: where a header lies is the matter of those who read or write it.
+-- RULES 1.8: the header h, by value, and the words of the slots in p show S. Where a header lies is the matter of those who read or write
+-- it.
 pub record Shows (h : Header) (p : List ℕ) (S : State) : Type 0 where
   pub length-is : length p ≡ 4 + 4 * S .slots
   pub header-is : h ≡ shownHeader S

@@ -1,4 +1,4 @@
--- Document 01, The pool: where header and slots stand in the words, and the words that a State shows.
+-- Document 01, The pool (RULES 1): where header and slots stand in the words, and the words that a State shows.
 use mathlib.Core.Path.{_≡_}
 use mathlib.Core.Bool.{Bool, true, false, _&&_}
 use mathlib.Core.List.{List, [], _∷_, _++_}
@@ -12,7 +12,7 @@ use Rattle.tree.specs.Codes.{mostSlots}
 use Rattle.tree.specs.Tree.{Tree, leaf, node, slotOf}
 use Rattle.tree.specs.State.{State, state, Top, empty, full, nodes}
 
--- "4 header words, then 4 words for each of C slots [..] Slots are numbered from 1": the words of slot s begin here.
+-- RULES 1.2: "4 header words, then 4 words for each of C slots [..] Slots are numbered from 1": the words of slot s begin here.
 abbrev pub wordOf : ℕ → ℕ
 wordOf s = 4 * s
 
@@ -26,7 +26,7 @@ slot key left right weight = record { key = key; left = left; right = right; wei
 abbrev pub weighing : Slot → ℕ → Slot
 weighing c w = slot (c .key) (c .left) (c .right) w
 
--- Reading past the end gives 0, writing there does nothing.
+-- RULES 1.3 and 1.4: the words of the header and of a slot. Reading past the end gives 0, writing there does nothing.
 unfoldable pub headerOf : List ℕ → Header
 headerOf p = header (getD p 0 0) (getD p 1 0) (getD p 2 0) (getD p 3 0)
 
@@ -46,11 +46,11 @@ slotsIn p = length p / 4 - 1
 abbrev pub lastSlot : List ℕ → ℕ
 lastSlot p = min (slotsIn p) mostSlots
 
--- code 1: "pool length is not 4 + 4C", C "from 1 to 1,023"
+-- code 1 (RULES 1.1): "pool length is not 4 + 4C", C "from 1 to 1,023"
 unfoldable pub lengthGood : List ℕ → Bool
 lengthGood p = eqb (length p) (4 + 4 * slotsIn p) && leb 1 (slotsIn p) && leb (slotsIn p) mostSlots
 
--- "A free slot is 0, next free slot (0 at the end), 0, 4,294,967,295."
+-- RULES 1.6: "A free slot is 0, next free slot (0 at the end), 0, 4,294,967,295."
 abbrev pub freeWeight : ℕ
 freeWeight = 4294967295
 
@@ -61,7 +61,7 @@ abbrev pub headOf : List ℕ → ℕ
 headOf [] = 0
 headOf (s ∷ ss) = s
 
--- what slot s holds in a tree that hangs from an edge of weight w, if it is there
+-- RULES 1.4: what slot s holds in a tree that hangs from an edge of weight w, if it is there
 unfoldable pub inTree : ℕ → ℕ → Tree → Option Slot
 inTree s w (leaf v k) = elim (eqb s v) [ true ↦ some (slot k 0 0 w) | false ↦ none ]
 inTree s w (node v k wl l wr r) = elim (eqb s v) [
@@ -89,7 +89,7 @@ shownSlot S s = elim (inTop s (S .top)) [
   | none ↦ elim (inChain s (S .free)) [ some c ↦ c | none ↦ slot 0 0 0 0 ]
 ]
 
--- The fourth word of the header: "one word that is 0". A named definition, because a later request puts L there.
+-- The fourth word of the header (RULES 1.3): "one word that is 0". A named definition, because a later request puts L there.
 unfoldable pub spareOf : Top → ℕ
 spareOf t = 0
 
@@ -107,6 +107,6 @@ unfoldable pub slotsFrom : (ℕ → Slot) → ℕ → ℕ → List ℕ
 slotsFrom f s zero = []
 slotsFrom f s (suc n) = slotWords (f s) ++ slotsFrom f (suc s) n
 
--- All the words that a State shows.
+-- RULES 1.8: all the words that a State shows.
 unfoldable pub wordsOf : State → List ℕ
 wordsOf S = headerWords (shownHeader S) ++ slotsFrom (shownSlot S) 1 (S .slots)

@@ -1,4 +1,4 @@
--- What reading standard input may answer.
+-- What reading standard input may answer. This page serves RULES 11.1.
 use Prim.Native.Nat.{ℕ, _≤_}
 use Rattle.marks.specs.declared.Input.{Input}
 use Rattle.marks.specs.declared.Input.the-variants.{Bytes, Unread}

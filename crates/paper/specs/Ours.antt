@@ -1,5 +1,5 @@
--- How document 01's trees and kinds stand to the paper's: a tree once slots are forgotten, where a slot stands, which case a kind is, and
--- 01's one narrowing.
+-- How document 01's trees and kinds stand to the paper's (RULES 12): a tree once slots are forgotten, where a slot stands, which case a
+-- kind is, and 01's one narrowing.
 use mathlib.Core.Path.{_≡_}
 use mathlib.Core.List.{List, [], _∷_}
 use Prim.Native.Nat.{ℕ}
@@ -21,7 +21,7 @@ pub data Stands (s : ℕ) (u : Tree) : List Side → Parent → Tree → Parent 
   in-right : {way : List Side} {p q : Parent} {v k wl wr : ℕ} {l r : Tree} → Stands s u way (edge wr) r q
       → Stands s u (right ∷ way) p (node v k wl l wr r) q
 
--- which case a kind is, and in which form: kinds 1 and 6 are Cases 1 and 4 in either form
+-- RULES 12.1: which case a kind is, and in which form: kinds 1 and 6 are Cases 1 and 4 in either form
 pub data Is : Kind → Case → Side → Type 0 where
   kind1 : {s : Side} → Is Blacken case1 s
   kind2 : Is SingleLeft case2 left
@@ -32,7 +32,7 @@ pub data Is : Kind → Case → Side → Type 0 where
   kind7 : Is LightenLeft case5 left
   kind8 : Is LightenRight case5 right
 
--- 01's narrowing of Cases 2 and 3: "'v not red' in kinds 2 to 5 is ours. Source 003 asks it in Case 1 only."
+-- 01's narrowing of Cases 2 and 3 (RULES 12.2): "'v not red' in kinds 2 to 5 is ours. Source 003 asks it in Case 1 only."
 unfoldable pub Narrowed : Case → Parent → Type 0
 Narrowed case1 p = Unit {0}
 Narrowed case2 p = NotRedAbove p

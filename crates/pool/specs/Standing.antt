@@ -1,5 +1,5 @@
 -- Walking down a tree that the audit has passed: what such a walk may ask for at a slot, and the allowance that it begins with. Every
--- recursion over a sound tree asks for this, with what it counts or writes besides.
+-- recursion over a sound tree asks for this, with what it counts or writes besides. This page serves RULES 6.
 use mathlib.Core.List.{List}
 use Prim.Native.Nat.{ℕ, _+_, _/_, _≤_}
 use Rattle.tree.specs.Codes.{mostSlots}

@@ -1,6 +1,6 @@
 -- The audit's walks as definitions that compute, with the code's recursion, loop and order: what each answers, and how many visits it
 -- makes. A visit is a call of `walk_tree` or a turn of the loop of `walk_chain`; it reads one slot at most. (Besides, `walk_top` reads
--- the root's slot once.) No public contract cites this page.
+-- the root's slot once.) No public contract cites this page; it serves RULES 2.
 use mathlib.Core.Bool.{Bool, true, false, _&&_}
 use mathlib.Core.List.{List}
 use lib.Dec.{eqb, leb, ltb}

@@ -1,5 +1,5 @@
 -- What the report's two walks down a tree ask for and answer: R and Q by below_red and below_other, overweighted edges and D by over.
--- Only private functions cite this page.
+-- Only private functions cite this page; it serves RULES 6.6.
 use mathlib.Core.Path.{_≡_}
 use mathlib.Core.List.{List}
 use Prim.Native.Nat.{ℕ, pred, _+_, _*_, _≤_, _<_, _^_}

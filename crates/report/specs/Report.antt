@@ -1,4 +1,4 @@
--- Document 01: what the report answers for any words, and the number that an index names.
+-- Document 01 (RULES 6): what the report answers for any words, and the number that an index names.
 use mathlib.Core.List.{List}
 use lib.ListN.{getD}
 use Prim.Native.Nat.{ℕ, zero, suc}
@@ -12,8 +12,8 @@ use Rattle.report.specs.declared.Reported.{Reported}
 abbrev pub reported : ℕ → Figures → Reported
 reported c f = record { code = c; figures = f }
 
--- "audit and report give 0, 1 or 2, the report with seven zeros when refused": by what the audit learns. On 0 the numbers are those of
--- the tree that the words show.
+-- RULES 6.10: "audit and report give 0, 1 or 2, the report with seven zeros when refused": by what the audit learns. On 0 the numbers are
+-- those of the tree that the words show.
 abbrev pub figuresAfter : List ℕ → Audited → Figures
 figuresAfter p Length = zeros
 figuresAfter p Broken = zeros
@@ -22,7 +22,7 @@ figuresAfter p (Passed h l) = report ((stateOf p) .top)
 unfoldable pub reportOf : List ℕ → Reported
 reportOf p = let a = audited p in reported (auditedCode a) (figuresAfter p a)
 
--- "takes an index, 1 first, and returns that number, 0 for [..] any other index"
+-- The seven numbers by index (RULES 6.9): "takes an index, 1 first, and returns that number, 0 for [..] any other index"
 unfoldable pub figureAt : ℕ → Figures → ℕ
 figureAt zero f = 0
 figureAt (suc i) f = getD (figures f) i 0

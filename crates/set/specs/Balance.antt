@@ -1,4 +1,4 @@
--- Demand 3 on words: the report's own numbers, and steps that are accepted one after the other.
+-- Demand 3 (RULES 13.3) on words: the report's own numbers, and steps that are accepted one after the other.
 use mathlib.Core.Path.{_≡_}
 use mathlib.Core.List.{List}
 use Prim.Native.Nat.{ℕ, suc}

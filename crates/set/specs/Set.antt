@@ -1,5 +1,5 @@
--- The set of keys that a pool shows, and what its operations answer: the words of proofs/Promises.antt. A crate above cites these names
--- and does not look behind them: `member`, `held` and `room` are read off the State that the words show.
+-- The set of keys that a pool shows, and what its operations answer (RULES 13.2): the words of proofs/Promises.antt. A crate above cites
+-- these names and does not look behind them: `member`, `held` and `room` are read off the State that the words show.
 use mathlib.Core.Path.{_≡_}
 use mathlib.Core.Logic.{_↔_}
 use mathlib.Core.List.{List}

@@ -1,5 +1,5 @@
--- Document 01, on words: the command step, the first allowed step, and settle as the list of pools that it goes through, the header given
--- by value; and the same for a pool whose header lies in its first words.
+-- Document 01, on words: the command step (RULES 4); the first allowed step, and settle as the list of pools that it goes through
+-- (RULES 5); the header given by value; and the same for a pool whose header lies in its first words.
 use mathlib.Core.Bool.{Bool, true, false, not, _&&_}
 use mathlib.Core.List.{List, [], _∷_}
 use mathlib.Core.Option.{Option, none, some}
@@ -48,11 +48,11 @@ levelFrom (suc n) p c sum = elim (hasChildren c) [
 unfoldable pub levelAt : ℕ → List ℕ → ℕ
 levelAt root p = levelFrom (lastSlot p) p (slotAt p root) 0
 
--- "Kind 1 at the root raises L. At L = 255 it is refused with 11."
+-- RULES 4.11: "Kind 1 at the root raises L. At L = 255 it is refused with 11."
 unfoldable pub limitAt : Kind → ℕ → List ℕ → ℕ → Bool
 limitAt k root p s = eqb (kindNumber k) (kindNumber Blacken) && eqb s root && eqb (levelAt root p) mostLevel
 
--- "An allowed step is a slot and kind that would be accepted." At an inner node, around which a stands; and at any slot.
+-- RULES 5.1: "An allowed step is a slot and kind that would be accepted." At an inner node, around which a stands; and at any slot.
 unfoldable pub allowedAround : Kind → ℕ → List ℕ → ℕ → Around → Bool
 allowedAround k root p s a = fits k a && not (limitAt k root p s)
 
@@ -63,8 +63,8 @@ allowedWords k root p s = innerAt p s && allowedAround k root p s (aroundAt p s)
 unfoldable pub takenWords : ℕ → List ℕ → ℕ → Kind → List ℕ
 takenWords root p s k = applied p s k (eqb s root) (aroundAt p s)
 
--- Kind k at an inner node in slot s, whose words are c. "Codes 5 to 11 change no pool word; lowest code first." 10: "condition false";
--- 11: "kind 1 at the root with L = 255".
+-- RULES 4.10: kind k at an inner node in slot s, whose words are c. "Codes 5 to 11 change no pool word; lowest code first." 10: "condition
+-- false"; 11: "kind 1 at the root with L = 255".
 unfoldable pub stepKind : List ℕ → Header → ℕ → Slot → Kind → Written
 stepKind p h s c k =
     let a = aroundOf p c in
@@ -87,7 +87,7 @@ unfoldable pub firstKind : List Kind → ℕ → List ℕ → ℕ → Option Kin
 firstKind [] root p s = none
 firstKind (k ∷ ks) root p s = elim (allowedWords k root p s) [ true ↦ some k | false ↦ firstKind ks root p s ]
 
--- "the lowest slot with an allowed kind, and there the lowest kind", among the n slots from s on
+-- RULES 5.2: "the lowest slot with an allowed kind, and there the lowest kind", among the n slots from s on
 unfoldable pub firstFrom : ℕ → ℕ → List ℕ → ℕ → Lowest
 firstFrom zero root p s = Nothing
 firstFrom (suc n) root p s = elim (firstKind kinds root p s) [ some k ↦ At s k | none ↦ firstFrom n root p (suc s) ]
@@ -98,7 +98,7 @@ firstAllowed root p = firstFrom (lastSlot p) root p 1
 unfoldable pub nextPool : ℕ → List ℕ → Option (List ℕ)
 nextPool root p = elim (firstAllowed root p) [ At s k ↦ some (takenWords root p s k) | Nothing ↦ none ]
 
--- "Settle repeats [..] until none is left or the budget is spent": the pools after the first.
+-- RULES 5.2 and 5.3: "Settle repeats [..] until none is left or the budget is spent": the pools after the first.
 unfoldable pub poolsAfter : ℕ → ℕ → List ℕ → List (List ℕ)
 poolsAfter root zero p = []
 poolsAfter root (suc budget) p = elim (nextPool root p) [ some q ↦ q ∷ poolsAfter root budget q | none ↦ [] ]

@@ -1,4 +1,4 @@
--- Document 01: allowed steps, and settle as the list of trees that it goes through.
+-- Document 01 (RULES 5): allowed steps, and settle as the list of trees that it goes through.
 use mathlib.Core.Bool.{Bool, true, false, not, _&&_}
 use mathlib.Core.List.{List, [], _∷_}
 use mathlib.Core.Option.{Option, none, some}
@@ -12,7 +12,7 @@ use Rattle.tree.specs.Tree.{Tree}
 use Rattle.tree.specs.Kinds.{conditionAt, stepped, atLimit}
 use Rattle.tree.specs.State.{State, state, empty, full, Outcome, gives}
 
--- "An allowed step is a slot and kind that would be accepted."
+-- RULES 5.1: "An allowed step is a slot and kind that would be accepted."
 unfoldable pub allowed : ℕ → Kind → Tree → Bool
 allowed s k t = conditionAt k s t && not (atLimit k s t)
 
@@ -21,7 +21,7 @@ unfoldable pub lowestKind : List Kind → ℕ → Tree → Option Kind
 lowestKind [] s t = none
 lowestKind (k ∷ ks) s t = elim (allowed s k t) [ true ↦ some k | false ↦ lowestKind ks s t ]
 
--- "the lowest slot with an allowed kind, and there the lowest kind", among the n slots from s on
+-- RULES 5.2: "the lowest slot with an allowed kind, and there the lowest kind", among the n slots from s on
 unfoldable pub lowestStep : ℕ → ℕ → Tree → Option (ℕ × Kind)
 lowestStep zero s t = none
 lowestStep (suc n) s t = elim (lowestKind kinds s t) [ some k ↦ some (s, k) | none ↦ lowestStep n (suc s) t ]
@@ -29,7 +29,7 @@ lowestStep (suc n) s t = elim (lowestKind kinds s t) [ some k ↦ some (s, k) | 
 unfoldable pub nextTree : ℕ → Tree → Option Tree
 nextTree c t = elim (lowestStep c 1 t) [ some a ↦ some (stepped (a .1) (a .0) t) | none ↦ none ]
 
--- "Settle repeats [..] until none is left or the budget is spent": the trees after the first, in a pool of c slots.
+-- RULES 5.2: "Settle repeats [..] until none is left or the budget is spent": the trees after the first, in a pool of c slots.
 unfoldable pub treesAfter : ℕ → ℕ → Tree → List Tree
 treesAfter c zero t = []
 treesAfter c (suc budget) t = elim (nextTree c t) [ some u ↦ u ∷ treesAfter c budget u | none ↦ [] ]
@@ -39,8 +39,8 @@ unfoldable pub lastOf : {A : Type 0} → A → List A → A
 lastOf x [] = x
 lastOf x (y ∷ ys) = lastOf y ys
 
--- 12: "budget spent and a step still allowed", with the steps taken, as without it; given what the next step would make, if one is
--- allowed. (Where none is left, the budget does not matter.)
+-- RULES 5.3. 12: "budget spent and a step still allowed", with the steps taken, as without it; given what the next step would make, if one
+-- is allowed. (Where none is left, the budget does not matter.)
 unfoldable pub settled : {A : Type 0} → ℕ → Option A → Answer
 settled n (some x) = Spent n
 settled n none = Done n

@@ -1,4 +1,5 @@
--- What a pool means: C, the tree or none, the free slots in their order; which States are sound; and what each command does to one.
+-- What a pool means (RULES 1): C, the tree or none, the free slots in their order; which States are sound (RULES 2); what each command but
+-- settle does to one (RULES 3, 4); and its report (RULES 6).
 use mathlib.Core.Path.{_≡_}
 use mathlib.Core.Bool.{Bool, true, false, not, _||_}
 use mathlib.Core.List.{List, [], _∷_}
@@ -36,7 +37,7 @@ unfoldable pub nodes : Top → ℕ
 nodes empty = 0
 nodes (full t) = size t
 
--- "L is 0 for an empty tree or one leaf."
+-- RULES 2.7: "L is 0 for an empty tree or one leaf."
 unfoldable pub levelTop : Top → ℕ
 levelTop empty = 0
 levelTop (full t) = level t
@@ -59,7 +60,7 @@ countTop s (full t) = count s t
 abbrev pub keyEnd : ℕ
 keyEnd = 2 ^ 32
 
--- What the audit rules ask of the tree alone: order, weights, sums. ("Weights are 0 to 255" follows from L at most 255.)
+-- What the audit rules ask of the tree alone (RULES 2.5 to 2.7): order, weights, sums. ("Weights are 0 to 255" follows from L at most 255.)
 pub record Good (t : Tree) : Type 0 where
   pub ordered : Ordered 0 keyEnd t
   pub chromatic : Chromatic 1 t
@@ -69,7 +70,7 @@ unfoldable pub GoodTop : Top → Type 0
 GoodTop empty = Unit {0}
 GoodTop (full t) = Good t
 
--- "Every slot is in the tree exactly once or on the free chain exactly once, never both", and no other number is in either.
+-- RULES 2.2: "Every slot is in the tree exactly once or on the free chain exactly once, never both", and no other number is in either.
 pub record Sound (S : State) : Type 0 where
   pub some : 1 ≤ S .slots
   pub few : S .slots ≤ mostSlots
@@ -78,7 +79,7 @@ pub record Sound (S : State) : Type 0 where
   pub none-above : (s : ℕ) → S .slots < s → countTop s (S .top) + countIn s (S .free) ≡ 0
   pub good : GoodTop (S .top)
 
--- "Prepare makes a pool empty: [..] all slots free, chained 1, 2, .. C."
+-- RULES 1.7: "Prepare makes a pool empty: [..] all slots free, chained 1, 2, .. C."
 unfoldable pub upwards : ℕ → ℕ → List ℕ
 upwards s zero = []
 upwards s (suc n) = s ∷ upwards (suc s) n
@@ -98,20 +99,20 @@ gives a S = record { answer = a; after = S }
 abbrev pub refuses : Refusal → State → Outcome
 refuses f S = gives (Refused f) S
 
--- Search: "the leaf's slot", or 6 "key absent".
+-- Search (RULES 3.1): "the leaf's slot", or 6 "key absent".
 unfoldable pub search : ℕ → State → Outcome
 search x S = elim (S .top) [
   | empty ↦ refuses KeyAbsent S
   | full t ↦ elim (eqb (reachedKey x t) x) [ true ↦ gives (Done (reachedSlot x t)) S | false ↦ refuses KeyAbsent S ]
 ]
 
--- 7: "fewer free slots than needed (1 if empty, else 2)"
+-- 7 (RULES 3.2): "fewer free slots than needed (1 if empty, else 2)"
 unfoldable pub slotsNeeded : Top → ℕ
 slotsNeeded empty = 1
 slotsNeeded (full t) = 2
 
--- Insert: 5 "key present", 7 as above, or "the new key's slot". "Taking a slot takes the chain's head." Into an empty tree, and into
--- the tree t, with these free slots.
+-- Insert (RULES 3.2): 5 "key present", 7 as above, or "the new key's slot". RULES 1.6: "Taking a slot takes the chain's head." Into an
+-- empty tree, and into the tree t, with these free slots.
 unfoldable pub insertFirst : ℕ → State → List ℕ → Outcome
 insertFirst x S [] = refuses NoRoom S
 insertFirst x S (a ∷ fs) = gives (Done a) (state (S .slots) (full (leaf a x)) fs)
@@ -127,8 +128,8 @@ insert x S = elim (S .top) [
   | full t ↦ elim (eqb (reachedKey x t) x) [ true ↦ refuses KeyPresent S | false ↦ insertMore x S t (S .free) ]
 ]
 
--- Delete: 6 "key absent", or "keys left". "A root leaf is freed." "The leaf's slot is freed first, then the sibling's", and
--- "freeing puts a slot at the head".
+-- Delete (RULES 3.3): 6 "key absent", or "keys left". "A root leaf is freed." "The leaf's slot is freed first, then the sibling's", and
+-- "freeing puts a slot at the head" (RULES 1.6).
 unfoldable pub deleted : ℕ → State → Tree → Outcome
 deleted x S (leaf s k) = gives (Done 0) (state (S .slots) empty (s ∷ S .free))
 deleted x S (node v k wl l wr r) =
@@ -141,7 +142,8 @@ delete x S = elim (S .top) [
   | full t ↦ elim (eqb (reachedKey x t) x) [ true ↦ deleted x S t | false ↦ refuses KeyAbsent S ]
 ]
 
--- Step. 8: "slot is 0, above C, free or a leaf"; 9: "kind not 1 to 8"; 10: "condition false"; 11: "kind 1 at the root with L = 255".
+-- Step (RULES 4.10). 8: "slot is 0, above C, free or a leaf"; 9: "kind not 1 to 8"; 10: "condition false"; 11: "kind 1 at the root with
+-- L = 255".
 unfoldable pub leafAt : ℕ → Tree → Bool
 leafAt s t = holdsAt (λ w u. isLeaf u) s 1 t
 
@@ -164,11 +166,11 @@ step s n S = elim (S .top) [
   | full t ↦ elim (noInner s S t) [ true ↦ refuses NoInnerNode S | false ↦ stepNamed s (named n) S t ]
 ]
 
--- an empty tree's numbers, and "seven zeros when refused"
+-- an empty tree's numbers (RULES 6.9), and "seven zeros when refused"
 abbrev pub zeros : Figures
 zeros = record { nodes = 0; level = 0; overweighted = 0; conflicts = 0; «over_distance» = 0; «red_distance» = 0; bound = 0 }
 
--- "The report gives seven numbers: N, L, overweighted edges [..], R, D, Q, and (3N+1)D + 2NR + Q."
+-- RULES 6.9: "The report gives seven numbers: N, L, overweighted edges [..], R, D, Q, and (3N+1)D + 2NR + Q."
 unfoldable pub report : Top → Figures
 report empty = zeros
 report (full t) = record {

@@ -1,4 +1,4 @@
-//! The library's four C names over the cousin.
+//! The library's C names over the cousin.
 
 use core::slice::{from_raw_parts, from_raw_parts_mut};
 
@@ -20,6 +20,11 @@ unsafe fn lent_mut<'a, T>(pointer: *mut T, len: usize) -> &'a mut [T] {
     } else {
         unsafe { from_raw_parts_mut(pointer, len) }
     }
+}
+
+#[no_mangle]
+pub extern "C" fn chromatic_interface_1() -> u32 {
+    1
 }
 
 /// # Safety

@@ -1,7 +1,7 @@
 //! The fast cousin: plain Rust on the same words, by the same algorithms, with no proofs.
 //!
 //! The timings hold the library against it. Built with the feature `exports` as a static archive, it has the
-//! library's four C names and can stand in for it (`HOST_ARCHIVE` of host/test), and with a planted fault it shows
+//! library's C names and can stand in for it (`host/test cousin`), and with a planted fault it shows
 //! that the tests see that fault (host/faults).
 
 mod batch;

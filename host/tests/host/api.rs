@@ -1,49 +1,72 @@
 //! The safe crate: every answer as a type, the batch's limits, and what a refusal leaves.
 
+use crate::pools::{grown, Shape, Weights};
 use crate::rng::Rng;
 use crate::twin;
-use chromatic::{Answer, Batch, Command, Deleted, Full, Inserted, Kind, Pool, Refused, Report, Searched, Settled, Stepped};
+use chromatic::{
+    raw, Answer, Batch, Command, Deleted, Full, Inserted, Kind, Mark, NoKind, Pool, Refused, Searched, Settled, Stepped, Words,
+};
+use std::cell::Cell;
+use std::error::Error;
+use std::ops::{Deref, DerefMut};
 
-fn told(inserted: Inserted) -> (u32, u32) {
+fn mark(inserted: Inserted) -> Mark {
     match inserted {
-        Inserted::Told(mark) => (mark.key(), mark.slot()),
+        Inserted::NewlyMarked(mark) => mark,
         other => panic!("{other:?}"),
     }
+}
+
+fn newly(inserted: Inserted) -> (u32, u32) {
+    let mark = mark(inserted);
+    (mark.key(), mark.slot())
+}
+
+fn present(inserted: Inserted) -> bool {
+    matches!(inserted, Inserted::KeyPresent)
+}
+
+fn no_room(inserted: Inserted) -> bool {
+    matches!(inserted, Inserted::NoRoom)
 }
 
 /// P1 to P6 through the types.
 #[test]
 fn worked_cases_as_types() -> Result<(), Refused> {
     let mut words = [77; Pool::words_for(9)];
-    let mut pool = Pool::prepare(&mut words)?;
+    let mut pool = Pool::prepare(&mut words[..])?;
     assert_eq!((pool.slots(), pool.most_keys()), (9, 5));
     assert_eq!(pool.search(10)?, Searched::KeyAbsent);
     for (key, slot) in [(10, 1), (20, 3), (30, 5), (40, 7)] {
-        assert_eq!(told(pool.insert(key)?), (key, slot));
+        assert_eq!(newly(pool.insert(key)?), (key, slot));
     }
-    let report = Report { nodes: 7, level: 1, overweighted: 0, conflicts: 1, over_distance: 0, red_distance: 2, bound: 16 };
-    assert_eq!(pool.report()?, report);
+    let report = pool.report()?;
+    assert_eq!((report.nodes, report.level, report.overweighted, report.conflicts), (7, 1, 0, 1));
+    assert_eq!((report.over_distance, report.red_distance, report.bound), (0, 2, 16));
     assert_eq!((report.keys(), report.red_black(), report.settle_budget()), (4, false, 16));
-    assert_eq!(pool.insert(40)?, Inserted::KeyPresent);
+    assert_eq!((pool.keys()?, pool.bound()?), (4, 16));
+    assert!(present(pool.insert(40)?));
     assert_eq!(pool.step(10, Kind::One)?, Stepped::NoInnerNode);
     assert_eq!(pool.step(1, Kind::Two)?, Stepped::ConditionFalse);
     assert_eq!(pool.step(1, Kind::Three)?, Stepped::Taken);
-    assert_eq!(told(pool.insert(50)?), (50, 9));
-    assert_eq!(pool.insert(60)?, Inserted::NoRoom);
+    assert_eq!(newly(pool.insert(50)?), (50, 9));
+    assert!(no_room(pool.insert(60)?));
     assert_eq!(pool.step(1, Kind::One)?, Stepped::Taken);
     assert_eq!(pool.delete(10)?, Deleted::Cleared { keys_left: 4 });
+    let report = pool.report()?;
+    assert_eq!((report.overweighted, report.conflicts, report.red_black()), (1, 0, false));
     assert_eq!(pool.delete(10)?, Deleted::KeyAbsent);
     assert_eq!(pool.settle(1)?, Settled::BudgetSpent { steps: 1 });
     assert_eq!(pool.settle(9)?, Settled::RedBlack { steps: 1 });
     assert!(pool.report()?.red_black());
-    assert_eq!(pool.search(20)?, Searched::Told { slot: 3 });
+    assert_eq!(pool.search(20)?, Searched::Marked { slot: 3 });
     pool.audit()
 }
 
 #[test]
 fn answers_come_in_the_batch_s_order() -> Result<(), Refused> {
     let mut words = [0; Pool::words_for(3)];
-    let mut pool = Pool::prepare(&mut words)?;
+    let mut pool = Pool::prepare(&mut words[..])?;
     let mut batch = Batch::new();
     let commands = [
         Command::Insert { key: 1 },
@@ -56,21 +79,22 @@ fn answers_come_in_the_batch_s_order() -> Result<(), Refused> {
         Command::Delete { key: 1 },
         Command::Settle { budget: 5 },
     ];
-    commands.iter().for_each(|&c| batch.add(c).unwrap());
+    commands.iter().for_each(|&c| batch.push(c).unwrap());
     let mut answers = pool.run(&batch)?;
-    assert!(matches!(answers.next(), Some(Answer::Insert { key: 1, answer: Inserted::Told(mark) }) if mark.slot() == 1));
-    assert_eq!(answers.next(), Some(Answer::Insert { key: 1, answer: Inserted::KeyPresent }));
-    assert!(matches!(answers.next(), Some(Answer::Insert { key: 2, answer: Inserted::Told(mark) }) if mark.slot() == 3));
-    let rest: Vec<Answer> = answers.collect();
-    let want = [
-        Answer::Insert { key: 3, answer: Inserted::NoRoom },
-        Answer::Search { key: 2, answer: Searched::Told { slot: 3 } },
-        Answer::Step { slot: 1, answer: Stepped::ConditionFalse },
-        Answer::Delete { key: 9, answer: Deleted::KeyAbsent },
-        Answer::Delete { key: 1, answer: Deleted::Cleared { keys_left: 1 } },
-        Answer::Settle { budget: 5, answer: Settled::RedBlack { steps: 0 } },
-    ];
-    assert_eq!(rest, want);
+    let left = |answers: &chromatic::Answers| (answers.len(), answers.size_hint());
+    assert_eq!(left(&answers), (9, (9, Some(9))));
+    assert!(matches!(answers.next(), Some(Answer::Insert { key: 1, answer: Inserted::NewlyMarked(mark) }) if mark.slot() == 1));
+    assert!(matches!(answers.next(), Some(Answer::Insert { key: 1, answer: Inserted::KeyPresent })));
+    assert!(matches!(answers.next(), Some(Answer::Insert { key: 2, answer: Inserted::NewlyMarked(mark) }) if mark.slot() == 3));
+    assert_eq!(left(&answers), (6, (6, Some(6))));
+    assert!(matches!(answers.next(), Some(Answer::Insert { key: 3, answer: Inserted::NoRoom })));
+    assert!(matches!(answers.next(), Some(Answer::Search { key: 2, answer: Searched::Marked { slot: 3 } })));
+    assert!(matches!(answers.next(), Some(Answer::Step { slot: 1, kind: Kind::Six, answer: Stepped::ConditionFalse })));
+    assert!(matches!(answers.next(), Some(Answer::Delete { key: 9, answer: Deleted::KeyAbsent })));
+    assert!(matches!(answers.next(), Some(Answer::Delete { key: 1, answer: Deleted::Cleared { keys_left: 1 } })));
+    assert!(matches!(answers.next(), Some(Answer::Settle { budget: 5, answer: Settled::RedBlack { steps: 0 } })));
+    assert_eq!(left(&answers), (0, (0, Some(0))));
+    assert!(answers.next().is_none() && answers.next().is_none());
     Ok(())
 }
 
@@ -84,13 +108,13 @@ fn the_builder_writes_shortest_forms() {
             let n = ((1i64 << shift) + off).clamp(0, u32::MAX.into()) as u32;
             let mut batch = Batch::new();
             let mut want = vec![];
-            batch.search(n).unwrap();
-            batch.insert(n).unwrap();
-            batch.delete(n).unwrap();
-            batch.settle(n).unwrap();
+            batch.push_search(n).unwrap();
+            batch.push_insert(n).unwrap();
+            batch.push_delete(n).unwrap();
+            batch.push_settle(n).unwrap();
             want.extend([twin::Command::Search(n), twin::Command::Insert(n), twin::Command::Delete(n), twin::Command::Settle(n)]);
             let kind = rng.pick(&Kind::ALL);
-            batch.step(n, kind).unwrap();
+            batch.push_step(n, kind).unwrap();
             want.push(twin::Command::Step(n, kind as u32));
             let len = batch.write(&mut bytes);
             assert_eq!(bytes[..len], twin::Command::all(&want)[..]);
@@ -102,35 +126,49 @@ fn the_builder_writes_shortest_forms() {
 #[test]
 fn a_batch_takes_256_commands_of_any_length() -> Result<(), Refused> {
     let mut words = [0; Pool::words_for(1)];
-    let mut pool = Pool::prepare(&mut words)?;
+    let mut pool = Pool::prepare(&mut words[..])?;
     let mut batch = Batch::default();
     assert_eq!(pool.run(&batch)?.count(), 0);
     for _ in 0..Batch::MOST {
-        batch.step(u32::MAX, Kind::Eight).unwrap();
+        batch.push_step(u32::MAX, Kind::Eight).unwrap();
     }
-    assert_eq!(batch.settle(1), Err(Full));
+    assert_eq!(batch.push_settle(1), Err(Full));
     assert_eq!(batch.commands().len(), 256);
-    let refused = |a| matches!(a, Answer::Step { slot: u32::MAX, answer: Stepped::NoInnerNode });
+    let refused = |a| matches!(a, Answer::Step { slot: u32::MAX, kind: Kind::Eight, answer: Stepped::NoInnerNode });
     assert!(pool.run(&batch)?.all(refused));
     batch.clear();
     assert_eq!(pool.run(&batch)?.count(), 0);
     Ok(())
 }
 
+/// The longest good batch.
+#[test]
+fn the_longest_batch() -> Result<(), Refused> {
+    assert_eq!((Command::LONGEST, Batch::MOST, Batch::LONGEST), (11, 256, 2816));
+    let longest = [4, 0xFF, 0xFF, 0xFF, 0xFF, 0x0F, 0xFF, 0xFF, 0xFF, 0xFF, 0x0F].repeat(Batch::MOST);
+    assert_eq!(longest.len(), Batch::LONGEST);
+    let mut pool = Pool::prepare(vec![0; Pool::words_for(1)])?;
+    pool.run_bytes(&longest, &mut [0; 2 * Batch::MOST])
+}
+
 #[test]
 fn refused_calls() {
     let mut words = vec![5; 13];
-    assert!(matches!(Pool::prepare(&mut words), Err(Refused::WrongLength)));
-    assert!(matches!(Pool::lend(&mut words), Err(Refused::WrongLength)));
+    assert!(matches!(Pool::prepare(&mut words[..]), Err(Refused::WrongLength)));
+    assert!(matches!(Pool::resume(&mut words[..]), Err(Refused::WrongLength)));
+    assert_eq!(words, [5; 13]);
     let mut words = vec![5; 12];
-    assert!(matches!(Pool::lend(&mut words), Err(Refused::RulesBroken)));
+    assert!(matches!(Pool::resume(&mut words[..]), Err(Refused::RulesBroken)));
     assert_eq!(words, [5; 12]);
-    let mut pool = Pool::prepare(&mut words).unwrap();
+    let mut pool = Pool::prepare(&mut words[..]).unwrap();
     let before = pool.words().to_vec();
-    assert_eq!(pool.run_bytes(&[2, 1, 0x80, 0x00], &mut [0; 9]), Err(Refused::BadCommand { byte: 2 }));
-    assert_eq!(pool.run_bytes(&[2, 1], &mut [0]), Err(Refused::FewAnswers));
-    assert_eq!(pool.words(), before);
-    assert!(Pool::lend(&mut words).is_ok());
+    let mut answers = [7; 9];
+    assert_eq!(pool.run_bytes(&[2, 1, 0x80, 0x00], &mut answers), Err(Refused::BadCommand { byte: 2 }));
+    assert_eq!(pool.run_bytes(&[2, 1], &mut answers[..1]), Err(Refused::FewAnswers));
+    assert_eq!((pool.words(), answers), (&before[..], [7; 9]));
+    assert_eq!(pool.run_bytes(&[2, 1, 1, 2], &mut answers), Ok(()));
+    assert_eq!(answers, [0, 1, 6, 0, 7, 7, 7, 7, 7]);
+    assert!(Pool::resume(&mut words[..]).is_ok());
 }
 
 /// 11 through the types: P8.
@@ -139,7 +177,257 @@ fn too_tall() {
     let leaf = |key| [key, 0, 0, 255];
     let mut words =
         [[1, 0, 9, 0], [3, 2, 3, 1], [2, 4, 7, 0], [4, 8, 9, 0], [1, 5, 6, 0], leaf(1), leaf(2), leaf(3), leaf(4), leaf(5)].concat();
-    let mut pool = Pool::lend(&mut words).unwrap();
+    let mut pool = Pool::resume(&mut words[..]).unwrap();
     assert_eq!(pool.step(1, Kind::One), Ok(Stepped::TooTall));
     assert_eq!(pool.report().unwrap().settle_budget() as u64, pool.report().unwrap().bound);
+}
+
+/// Pushing alone marks nothing.
+#[test]
+fn a_pushed_insert_inserts_nothing() -> Result<(), Refused> {
+    let mut words = [0; Pool::words_for(3)];
+    let mut pool = Pool::prepare(&mut words[..])?;
+    let before = pool.words().to_vec();
+    let mut batch = Batch::new();
+    batch.push_insert(7).unwrap();
+    assert_eq!(pool.words(), before);
+    assert_eq!(pool.search(7)?, Searched::KeyAbsent);
+    Ok(())
+}
+
+/// "C slots hold (C+1)/2 keys", and the next insert says so, whatever was deleted and inserted before.
+#[test]
+fn slots_hold_so_many_keys() -> Result<(), Refused> {
+    for slots in (1..=20).chain([127, 1022, 1023]) {
+        let mut pool = Pool::prepare(vec![0; Pool::words_for(slots)])?;
+        let most = (slots as u32 + 1) / 2;
+        assert_eq!((pool.slots(), pool.most_keys()), (slots, most as usize));
+        for turn in 0..3 {
+            (0..most).for_each(|key| drop(mark(pool.insert(key).unwrap())));
+            let full = pool.words().to_vec();
+            for _ in 0..2 {
+                assert!(no_room(pool.insert(most)?) && no_room(pool.insert(u32::MAX)?), "C = {slots}, turn {turn}");
+                assert!(present(pool.insert(0)?));
+                assert_eq!(pool.words(), full);
+            }
+            assert_eq!(pool.keys()?, most.into());
+            for key in 0..most {
+                assert_eq!(pool.delete(key)?, Deleted::Cleared { keys_left: most - key - 1 });
+            }
+        }
+    }
+    let [most, keys] = [Pool::MOST_SLOTS, Pool::words_for(127)];
+    assert_eq!((most, keys), (1023, 512));
+    Ok(())
+}
+
+#[test]
+fn words_for_refuses_other_counts() {
+    for slots in [0, 1024, usize::MAX / 4, usize::MAX] {
+        assert!(std::panic::catch_unwind(|| Pool::words_for(slots)).is_err(), "{slots} slots");
+    }
+    assert_eq!([1, 1023].map(Pool::words_for), [8, 4096]);
+}
+
+/// A send that failed: the key can be marked anew, and its slots are free.
+#[test]
+fn a_mark_can_be_withdrawn() -> Result<(), Refused> {
+    let mut words = [0; Pool::words_for(3)];
+    let mut pool = Pool::prepare(&mut words[..])?;
+    let first = mark(pool.insert(7)?);
+    let lost = mark(pool.insert(8)?);
+    assert!(no_room(pool.insert(9)?));
+    assert_eq!(pool.withdraw(lost)?, Deleted::Cleared { keys_left: 1 });
+    assert_eq!(pool.search(8)?, Searched::KeyAbsent);
+    assert_eq!(newly(pool.insert(8)?).0, 8);
+    assert!(present(pool.insert(8)?));
+    assert_eq!(pool.delete(7)?, Deleted::Cleared { keys_left: 1 });
+    assert_eq!(pool.withdraw(first)?, Deleted::KeyAbsent);
+    Ok(())
+}
+
+/// A resident process: it owns its pool, and hands it on.
+struct Resident {
+    pool: Pool<Box<[u32]>>,
+}
+
+impl Resident {
+    fn begun(slots: usize) -> Result<Resident, Refused> {
+        Ok(Resident { pool: Pool::prepare(vec![0; Pool::words_for(slots)].into_boxed_slice())? })
+    }
+}
+
+fn insert_one(pool: &mut Pool<impl Words>, key: u32) -> Result<(u32, u32), Refused> {
+    pool.insert(key).map(newly)
+}
+
+/// Lent or owned, as a slice, a vector or a box: the same words.
+#[test]
+fn pools_own_or_borrow() -> Result<(), Refused> {
+    let mut resident = Resident::begun(9)?;
+    insert_one(&mut resident.pool, 10)?;
+    let owned = resident.pool.into_words();
+    let mut array = [5; Pool::words_for(9)];
+    let mut lent: Pool<&mut [u32]> = Pool::prepare(&mut array[..])?;
+    insert_one(&mut lent, 10)?;
+    assert_eq!(lent.words(), &owned[..]);
+    assert_eq!(array[..], owned[..]);
+    let mut again = Pool::resume(owned.into_vec())?;
+    assert!(present(again.insert(10)?));
+    assert_eq!(again.into_words()[..], array[..]);
+    Ok(())
+}
+
+/// Words that give another slice when they are told to, the one way to damage a pool that lives, and count how often they
+/// are asked.
+struct Turned<'a> {
+    slices: [Vec<u32>; 2],
+    which: &'a Cell<usize>,
+    asked: &'a Cell<usize>,
+}
+
+impl Deref for Turned<'_> {
+    type Target = [u32];
+
+    fn deref(&self) -> &[u32] {
+        self.asked.set(self.asked.get() + 1);
+        &self.slices[self.which.get()]
+    }
+}
+
+impl DerefMut for Turned<'_> {
+    fn deref_mut(&mut self) -> &mut [u32] {
+        self.asked.set(self.asked.get() + 1);
+        &mut self.slices[self.which.get()]
+    }
+}
+
+/// Every call of a damaged pool is refused, a figure that would be 0 too.
+#[test]
+fn a_damaged_pool_answers_nothing() -> Result<(), Refused> {
+    let mut sound = vec![0; Pool::words_for(5)];
+    let _ = Pool::prepare(&mut sound[..])?;
+    let mut broken = sound.clone();
+    broken[3] = 1;
+    let (which, asked) = (Cell::new(0), Cell::new(0));
+    let mut pool = Pool::resume(Turned { slices: [sound, broken], which: &which, asked: &asked })?;
+    assert_eq!((pool.keys(), pool.bound(), pool.audit()), (Ok(0), Ok(0), Ok(())));
+    which.set(1);
+    let refused = Refused::RulesBroken;
+    assert_eq!((pool.keys(), pool.bound(), pool.audit()), (Err(refused), Err(refused), Err(refused)));
+    assert_eq!(pool.report(), Err(refused));
+    assert_eq!(
+        (pool.search(1), pool.delete(1), pool.settle(1), pool.step(1, Kind::One)),
+        (Err(refused), Err(refused), Err(refused), Err(refused))
+    );
+    assert!(matches!(pool.insert(1), Err(Refused::RulesBroken)));
+    assert!(matches!(pool.run(&Batch::new()), Err(Refused::RulesBroken)));
+    Ok(())
+}
+
+/// `keys` and `bound` ask the library once where the number is not 0, and look again where it is; a report asks seven times.
+#[test]
+fn one_figure_is_one_call() -> Result<(), Refused> {
+    let (which, asked) = (Cell::new(0), Cell::new(0));
+    let words = || vec![0; Pool::words_for(9)];
+    let mut pool = Pool::prepare(Turned { slices: [words(), words()], which: &which, asked: &asked })?;
+    let calls = |pool: &Pool<Turned>, what: fn(&Pool<Turned>)| {
+        asked.set(0);
+        what(pool);
+        asked.get()
+    };
+    assert_eq!(calls(&pool, |pool| assert_eq!(pool.keys(), Ok(0))), 2);
+    [10, 20, 30, 40].map(|key| drop(mark(pool.insert(key).unwrap())));
+    assert_eq!(calls(&pool, |pool| assert_eq!(pool.keys(), Ok(4))), 1);
+    assert_eq!(calls(&pool, |pool| assert_eq!(pool.bound(), Ok(16))), 1);
+    assert_eq!(calls(&pool, |pool| assert_eq!(pool.report().unwrap().bound, 16)), 7);
+    Ok(())
+}
+
+/// A bound that fits no command: the budget is the largest that does.
+#[test]
+fn a_bound_above_32_bits() -> Result<(), Refused> {
+    let keys: Vec<u32> = (0..512).collect();
+    let mut words = grown(&mut Rng::seeded("a heavy tree", 9100), 1023, &keys, 255, Shape::Halves, Weights::Red).words();
+    let report = Pool::resume(&mut words[..])?.report()?;
+    assert!(report.bound > u32::MAX.into(), "{report:?}");
+    assert_eq!(report.settle_budget(), u32::MAX);
+    Ok(())
+}
+
+/// The codes as constants.
+#[test]
+fn codes_are_numbered() {
+    let call = [Refused::WRONG_LENGTH, Refused::RULES_BROKEN, Refused::BAD_COMMAND, Refused::FEW_ANSWERS];
+    let update = [Inserted::KEY_PRESENT, Searched::KEY_ABSENT, Inserted::NO_ROOM];
+    let step = [Stepped::NO_INNER_NODE, Stepped::NO_KIND, Stepped::CONDITION_FALSE, Stepped::TOO_TALL];
+    assert!([&call[..], &update, &step, &[Settled::BUDGET_SPENT]].concat().into_iter().eq(1..=12));
+    let refused = [Refused::WrongLength, Refused::RulesBroken, Refused::BadCommand { byte: 40 }, Refused::FewAnswers];
+    assert_eq!(refused.map(|r| (r.code(), r.number())), [(1, 0), (2, 0), (3, 40), (4, 0)]);
+}
+
+#[test]
+fn kinds_from_numbers() {
+    for (number, kind) in (1..).zip(Kind::ALL) {
+        assert_eq!((Kind::try_from(number), u32::from(kind)), (Ok(kind), number));
+    }
+    for number in [0, 9, 256 + 1, u32::MAX] {
+        assert_eq!(Kind::try_from(number), Err(NoKind { number }));
+    }
+}
+
+/// `?` takes each of them into a box, and the text says what to do.
+#[test]
+fn errors_are_errors() {
+    fn refused(words: &mut [u32]) -> Result<(), Box<dyn Error>> {
+        Pool::prepare(words)?;
+        Ok(())
+    }
+    fn full(batch: &mut Batch) -> Result<(), Box<dyn Error>> {
+        loop {
+            batch.push_search(1)?;
+        }
+    }
+    fn no_kind() -> Result<Kind, Box<dyn Error>> {
+        Ok(Kind::try_from(9)?)
+    }
+    let said = |error: Box<dyn Error>| error.to_string();
+    let wrong_length =
+        format!("refused with code 1: the pool's length is not that of 1 to {} slots; Pool::words_for gives it", Pool::MOST_SLOTS);
+    assert_eq!(said(refused(&mut [0; 5]).unwrap_err()), wrong_length);
+    assert_eq!(said(full(&mut Batch::new()).unwrap_err()), "the batch has its 256 commands: run it, and push this one into another");
+    assert_eq!(said(no_kind().unwrap_err()), "9 is no kind of step: the kinds are 1 to 8");
+    assert_eq!(
+        Refused::RulesBroken.to_string(),
+        "refused with code 2: the pool breaks an audit rule; what it says of marks means nothing, send no text by it"
+    );
+    assert_eq!(
+        Refused::BadCommand { byte: 40 }.to_string(),
+        "refused with code 3: the command that begins at byte 40 of the batch is unknown, cut short, not in shortest form, too large or \
+         the 257th; a Batch writes none like it"
+    );
+    assert_eq!(Refused::FewAnswers.to_string(), "refused with code 4: there are fewer than two answer words per command; lend more");
+}
+
+#[test]
+fn public_types_are_shown() -> Result<(), Refused> {
+    let mut words = [0; Pool::words_for(9)];
+    let mut pool = Pool::prepare(&mut words[..])?;
+    let mut batch = Batch::new();
+    batch.push_insert(7).unwrap();
+    assert_eq!(format!("{batch:?}"), "Batch([Insert { key: 7 }])");
+    assert_eq!((batch.len(), batch.is_empty(), Batch::new().is_empty()), (1, false, true));
+    let mut answers = pool.run(&batch)?;
+    assert_eq!(format!("{answers:?}"), "Answers { left: 1, to: [Insert { key: 7 }], .. }");
+    assert_eq!(format!("{:?}", answers.next()), "Some(Insert { key: 7, answer: NewlyMarked(Mark { key: 7, slot: 1 }) })");
+    assert_eq!(format!("{pool:?}"), "Pool { slots: 9, .. }");
+    Ok(())
+}
+
+/// The archive's interface is the last one that docs/INTERFACE.md lists.
+#[test]
+fn the_interface_is_the_listed_one() {
+    let page = std::fs::read_to_string(concat!(env!("CARGO_MANIFEST_DIR"), "/../docs/INTERFACE.md")).expect("docs/INTERFACE.md");
+    let mut listed = page.lines().filter_map(|line| line.strip_prefix("| ")?.split(' ').next()?.parse().ok());
+    assert_eq!(listed.next_back(), Some(raw::interface()));
 }

@@ -1,4 +1,4 @@
-//! Tests of the library behind the crate `chromatic`. They know it by its four functions only, and compare it with the
+//! Tests of the library behind the crate `chromatic`. They know it by its functions only, and compare it with the
 //! twin (twin/), which is document 01 written again.
 //!
 //! Lines that begin with "seed", "compared" or "measured" are for host/test to show.

@@ -3,8 +3,8 @@
 
 mod sets;
 
-use chromatic::Command;
-use sets::{all, kind, Set, Work};
+use chromatic::{Command, Kind};
+use sets::{all, Set, Work};
 use std::hint::black_box;
 use std::time::{Duration, Instant};
 
@@ -157,7 +157,7 @@ fn steps_from(words: &[u32]) -> Vec<Command> {
         if slot == 0 {
             break;
         }
-        let step = Command::Step { slot, kind: kind(number) };
+        let step = Command::Step { slot, kind: Kind::try_from(number).expect("a kind") };
         steps.push(step);
         cousin::batch(&mut words, &[5, 1], &mut [0; 2]);
     }

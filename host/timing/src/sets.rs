@@ -1,6 +1,6 @@
 //! The contestants: each runs the same work and says how many commands succeeded.
 
-use chromatic::{Batch, Command, Kind};
+use chromatic::{Batch, Command};
 use std::collections::BTreeSet;
 
 /// Commands, as every contestant wants them.
@@ -42,20 +42,16 @@ fn number_and_key(command: Command) -> (u32, u32) {
         Command::Delete { key } => (3, key),
         Command::Step { slot, .. } => (4, slot),
         Command::Settle { budget } => (5, budget),
+        other => unreachable!("{other:?} is not timed"),
     }
 }
 
 fn bytes_of(commands: &[Command]) -> Vec<u8> {
     let mut batch = Batch::new();
-    commands.iter().for_each(|&c| batch.add(c).expect("at most 256 in a batch"));
+    commands.iter().for_each(|&c| batch.push(c).expect("at most 256 in a batch"));
     let mut bytes = [0; Batch::LONGEST];
     let len = batch.write(&mut bytes);
     bytes[..len].to_vec()
-}
-
-/// Kind 1 to 8 by its number.
-pub fn kind(number: u32) -> Kind {
-    Kind::ALL[number as usize - 1]
 }
 
 pub trait Set {

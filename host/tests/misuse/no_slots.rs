@@ -1,0 +1,8 @@
+//! A pool without slots has no length, and one of 1,024 slots has none either.
+//! error: E0080
+#![deny(warnings)]
+use chromatic::Pool;
+
+pub static NONE: [u32; Pool::words_for(0)] = [0; Pool::words_for(0)]; // FAULT
+pub static MANY: [u32; Pool::words_for(1024)] = [0; Pool::words_for(1024)]; // FAULT
+pub static MOST: [u32; Pool::words_for(1023)] = [0; Pool::words_for(1023)];
