@@ -116,17 +116,30 @@ fn audit_time(words: &[u32]) -> Duration {
         .unwrap()
 }
 
-/// Time against size: eight times the slots take about eight times the time. (A square would take 64 times.)
+/// Time against size: eight times the slots take about eight times the time. (A square would take 64 times.) What else the
+/// machine does only adds to a time, so the least is taken, and looked for again while it is too much: what grows like a
+/// square stays above in every round.
 #[test]
 fn the_audit_stays_linear() {
     let sizes = [127, 255, 511, MOST_SLOTS];
     let sound = |slots| ("the deepest sound tree", deepest(slots, Shape::ChainRight).words());
     let pools = sizes.map(|slots| [vec![sound(slots)], tangles(slots)].concat());
     for i in 0..pools[0].len() {
-        let times: Vec<f64> = pools.iter().map(|of_size| audit_time(&of_size[i].1).as_nanos() as f64).collect();
-        println!("measured audit of {}: {times:.0?} ns for C = {sizes:?}", pools[0][i].0);
+        let mut times = [f64::MAX; 4];
         // 8 for the slots, half as much again for the caches, and a microsecond for the clock.
-        assert!(times[3] < 12.0 * times[0] + 1000.0, "{}: {times:?}", pools[0][i].0);
+        let linear = |times: &[f64; 4]| times[3] < 12.0 * times[0] + 1000.0;
+        let mut rounds = 0;
+        while rounds == 0 || rounds < 200 && !linear(&times) {
+            if rounds > 0 {
+                thread::sleep(Duration::from_millis(10));
+            }
+            for (time, of_size) in times.iter_mut().zip(&pools) {
+                *time = time.min(audit_time(&of_size[i].1).as_nanos() as f64);
+            }
+            rounds += 1;
+        }
+        println!("measured audit of {}: {times:.0?} ns for C = {sizes:?}, in {rounds} rounds", pools[0][i].0);
+        assert!(linear(&times), "{}: {times:?} in {rounds} rounds", pools[0][i].0);
     }
 }
 
