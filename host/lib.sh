@@ -206,6 +206,8 @@ linked() { # KIND DIR TRIPLE SUBCOMMAND WORDS...
 # cargo for x86-64 on aarch64, linking the archive that ships and running under the kit's emulator. (Its rustc has a
 # standard library for x86-64 alone, so that no build script could be compiled.)
 x86_cargo() { # SUBCOMMAND WORDS...
+    subcommand=$1
+    shift
     RUSTC=$x86/bin/rustc CARGO_TARGET_X86_64_UNKNOWN_LINUX_GNU_LINKER=$x86/bin/x86-64-ld CARGO_TARGET_X86_64_UNKNOWN_LINUX_GNU_RUNNER=$x86/bin/run \
-        CARGO_TARGET_X86_64_UNKNOWN_LINUX_GNU_RUSTFLAGS="-C linker-flavor=ld" linked static "$shipped" x86_64-unknown-linux-gnu "$@" --target x86_64-unknown-linux-gnu --target-dir "$target/x86-64"
+        CARGO_TARGET_X86_64_UNKNOWN_LINUX_GNU_RUSTFLAGS="-C linker-flavor=ld" linked static "$shipped" x86_64-unknown-linux-gnu "$subcommand" --target x86_64-unknown-linux-gnu --target-dir "$target/x86-64" "$@"
 }

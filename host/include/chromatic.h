@@ -1,7 +1,7 @@
 /* The set of marks for C and C++ hosts: libchromatic.a. Each function answers for every input and allocates nothing.
  * A pool is 4 + 4C words, C from 1 to 1,023. C slots hold (C+1)/2 keys: 127 slots hold 64 keys.
  * Lengths are in elements. A pointer may be NULL where its length is 0, and nowhere else. During a call what is written (pool,
- * answers) overlaps nothing else that is lent, the batch included.
+ * answers, out) overlaps nothing else that is lent, the batch and the saved bytes included.
  * A batch is commands one after another, each an operation and its arguments. Numbers in it are seven-bit groups, the lowest first, the
  * top bit set where more follow, with no more groups than needed: 10 is the byte 0A, 200 the bytes C8 01 (docs/FORMATS.md). */
 #ifndef CHROMATIC_H
@@ -20,8 +20,8 @@ extern "C" {
 /* The number of this interface; docs/INTERFACE.md says what each has. The function returns it. With GCC and Clang every file that
  * includes this header refers to the function, so that a program does not link with an archive of another interface; with
  * another compiler, call it once. */
-#define CHROMATIC_INTERFACE 1
-uint32_t chromatic_interface_1(void);
+#define CHROMATIC_INTERFACE 2
+uint32_t chromatic_interface_2(void);
 #ifdef __GNUC__
 __attribute__((used))
 #ifdef __has_attribute
@@ -29,7 +29,7 @@ __attribute__((used))
 __attribute__((retain)) /* from --gc-sections */
 #endif
 #endif
-static uint32_t (*const chromatic_interface_needed)(void) = chromatic_interface_1;
+static uint32_t (*const chromatic_interface_needed)(void) = chromatic_interface_2;
 #endif
 
 #ifdef __GNUC__
@@ -42,6 +42,7 @@ static uint32_t (*const chromatic_interface_needed)(void) = chromatic_interface_
 #define CHROMATIC_MOST_SLOTS 1023                                         /* which hold 512 keys */
 #define CHROMATIC_MOST_COMMANDS 256
 #define CHROMATIC_ANSWER_WORDS 2 /* for each command: code, number */
+#define CHROMATIC_SAVED_BYTES(nodes) (4 + 7 * CHROMATIC_AS(size_t, nodes)) /* enough for that many nodes; for C, whatever is in the pool */
 
 enum chromatic_code {
     CHROMATIC_GOOD = 0,
@@ -59,7 +60,10 @@ enum chromatic_code {
     CHROMATIC_CONDITION_FALSE = 10,
     CHROMATIC_TOO_TALL = 11,
     /* Not a refusal: the steps stand. */
-    CHROMATIC_BUDGET_SPENT = 12
+    CHROMATIC_BUDGET_SPENT = 12,
+    /* The call is refused whole, and no word or byte changes. */
+    CHROMATIC_BAD_SAVED = 13, /* no save writes these bytes: who was told is not known, so send nothing and do not prepare an empty pool */
+    CHROMATIC_NO_FIT = 14     /* too little room for the saved bytes; or a pool of another C than the one that was saved */
 };
 
 enum chromatic_operation {
@@ -93,6 +97,14 @@ CHROMATIC_MUST_USE uint64_t chromatic_report(const uint32_t *pool, size_t pool_l
  * its text goes out. */
 CHROMATIC_MUST_USE uint64_t chromatic_batch(uint32_t *pool, size_t pool_len, const uint8_t *batch, size_t batch_len,
                                             uint32_t *answers, size_t answers_len);
+
+/* Writes the set as bytes to the beginning of out: their count, or code 1, 2 or 14 (tried in that order) times 2 to the power 32,
+ * and no byte is written. Bytes past the count stay: store that many and no more, before the text of a new mark goes out. */
+CHROMATIC_MUST_USE uint64_t chromatic_save(const uint32_t *pool, size_t pool_len, uint8_t *out, size_t out_len);
+
+/* Makes the pool, whatever its words are, the set that was saved: N, or code 1, 13 or 14 (tried in that order) times 2 to the
+ * power 32, and no word changes. The marks are those of when it was saved: never load older bytes. */
+CHROMATIC_MUST_USE uint64_t chromatic_load(uint32_t *pool, size_t pool_len, const uint8_t *saved, size_t saved_len);
 
 #define CHROMATIC_CODE(answer) CHROMATIC_AS(uint32_t, (answer) >> 32)
 #define CHROMATIC_NUMBER(answer) CHROMATIC_AS(uint32_t, (answer) & UINT32_MAX)

@@ -4,7 +4,7 @@ use crate::batch::{Command, Kind};
 use crate::layout;
 use core::fmt;
 
-/// Why a call was refused whole. Pool and answers are as they were. Its text says what to do.
+/// Why a call was refused whole. Pool, answers and output are as they were. Its text says what to do.
 #[derive(Clone, Copy, Debug, PartialEq, Eq)]
 #[must_use = "a refused call did nothing"]
 #[non_exhaustive]
@@ -20,6 +20,12 @@ pub enum Refused {
     },
     /// Code 4: fewer than two answer words per command.
     FewAnswers,
+    /// Code 13: no save writes these bytes. They are cut short, damaged, or something else. Which texts went is not known
+    /// then: send none, and do not [`prepare`](crate::Pool::prepare) an empty set in their place.
+    BadSaved,
+    /// Code 14: of a save, the output has too little room; of a load, the pool has another number of slots than the one that
+    /// was saved.
+    NoFit,
 }
 
 impl Refused {
@@ -31,6 +37,10 @@ impl Refused {
     pub const BAD_COMMAND: u32 = 3;
     /// The code of [`Refused::FewAnswers`].
     pub const FEW_ANSWERS: u32 = 4;
+    /// The code of [`Refused::BadSaved`].
+    pub const BAD_SAVED: u32 = 13;
+    /// The code of [`Refused::NoFit`].
+    pub const NO_FIT: u32 = 14;
 
     /// The code.
     pub fn code(self) -> u32 {
@@ -39,6 +49,8 @@ impl Refused {
             Refused::RulesBroken => Refused::RULES_BROKEN,
             Refused::BadCommand { .. } => Refused::BAD_COMMAND,
             Refused::FewAnswers => Refused::FEW_ANSWERS,
+            Refused::BadSaved => Refused::BAD_SAVED,
+            Refused::NoFit => Refused::NO_FIT,
         }
     }
 
@@ -46,7 +58,7 @@ impl Refused {
     pub fn number(self) -> u32 {
         match self {
             Refused::BadCommand { byte } => byte,
-            Refused::WrongLength | Refused::RulesBroken | Refused::FewAnswers => 0,
+            Refused::WrongLength | Refused::RulesBroken | Refused::FewAnswers | Refused::BadSaved | Refused::NoFit => 0,
         }
     }
 
@@ -58,6 +70,8 @@ impl Refused {
             Refused::RULES_BROKEN => Err(Refused::RulesBroken),
             Refused::BAD_COMMAND => Err(Refused::BadCommand { byte: number }),
             Refused::FEW_ANSWERS => Err(Refused::FewAnswers),
+            Refused::BAD_SAVED => Err(Refused::BadSaved),
+            Refused::NO_FIT => Err(Refused::NoFit),
             _ => foreign(code),
         }
     }
@@ -77,6 +91,14 @@ impl fmt::Display for Refused {
                  a Batch writes none like it"
             ),
             Refused::FewAnswers => f.write_str("there are fewer than two answer words per command; lend more"),
+            Refused::BadSaved => f.write_str(
+                "these bytes are no saved set; which texts went is not known: send none, do not begin empty, put back the bytes of \
+                 the last save",
+            ),
+            Refused::NoFit => f.write_str(
+                "it does not fit; to save, lend more room (Pool::saved_bytes_for gives enough); to load, lend words for as many slots as \
+                 were saved",
+            ),
         }
     }
 }
@@ -311,7 +333,7 @@ mod tests {
         let said = take_hook();
         set_hook(Box::new(|_| {})); // they would say hundreds of lines
         let wrong = [
-            own(&[0, 1, 2, 3, 4], |code| assert_eq!(Refused::check(code, 0).map_or_else(Refused::code, |()| 0), code)),
+            own(&[0, 1, 2, 3, 4, 13, 14], |code| assert_eq!(Refused::check(code, 0).map_or_else(Refused::code, |()| 0), code)),
             own(&[0, 6], |code| assert_eq!(Searched::read(code, 9) == Searched::KeyAbsent, code == 6)),
             own(&[0, 5, 7], |code| assert_eq!(matches!(Inserted::read(1, code, 9), Inserted::NewlyMarked(_)), code == 0)),
             own(&[0, 6], |code| assert_eq!(Deleted::read(code, 9) == Deleted::KeyAbsent, code == 6)),

@@ -1,8 +1,8 @@
 //! The set of marks, for a Rust host: 32-bit keys held as a chromatic tree in words that the host lends or hands over.
 //!
 //! The work is done by the proved library, `libchromatic.a`, which the build script finds; this crate gives its functions
-//! types. It allocates nothing, has no dependencies and keeps no state of its own. How it is made a dependency stands in
-//! host/README.md.
+//! types. It allocates nothing (but in `Pool::save_to_vec`, with the feature `std`), has no dependencies and keeps no state
+//! of its own. How it is made a dependency stands in host/README.md.
 //!
 //! # A send that takes a mark
 //!
@@ -40,10 +40,12 @@
 //! | `mark.clone()`; `answers.clone()`, whose marks would come twice | E0599 | `mark_cloned`, `answers_cloned` |
 //! | `Mark { key, slot }` | E0451 | `mark_made_up` |
 //! | `Mark::default()` | E0599 | `mark_by_default` |
-//! | preparing lent words again while their pool is in use | E0499 | `prepared_in_use` |
+//! | preparing lent words again while their pool is in use, or loading into them | E0499 | `prepared_in_use`, `loaded_in_use` |
 //! | handing over an array, whose copy would get the mark | E0277 | `array_copied` |
 //! | `pool.insert(key)?;`, `pool.run(&batch)?;`, `raw::batch(..);`, and so for every command's answer | a warning, `unused_must_use`; make it an error in your crate | `insert_unread`, `answers_unread`, `raw_unread`, `each_unread` |
-//! | an array of `Pool::words_for(0)` or of `words_for(1024)` words | E0080 | `no_slots` |
+//! | `pool.save(&mut out);`, `Pool::load(words, saved);`: done, or refused? | the same warning, `unused_must_use` | `save_unread` |
+//! | a second save into the same `out` while the first one's bytes are not stored | E0499 | `saved_over` |
+//! | an array of `Pool::words_for(0)` or of `words_for(1024)` words; of `saved_bytes_for(0)` or `saved_bytes_for(1024)` bytes | E0080 | `no_slots` |
 //! | a `match` without a rest on [`Refused`], [`Command`] or any answer but the insert's; a [`Report`] made up: they can grow | E0004, E0639 | `rest_forgotten`, `report_made_up` |
 //!
 //! # What still compiles
@@ -61,17 +63,41 @@
 //! | a send that borrows: `fn send(mark: &Mark)` (clippy's `needless_pass_by_value` proposes it), or a shared `Rc<Mark>` | take it by value, and allow that lint there | `still_mark_borrowed` |
 //! | keeping a mark while its key is deleted and marked again: both send; [`Pool::withdraw`] of the old one takes the later mark away; of another pool's, that key's mark here | send or withdraw a mark at once, and on its own pool | `still_old_mark_withdrawn` |
 //! | taking up older words: a copy of [`Pool::words`] from before the mark | store the words after the insert and before the text; never take up an older copy | `still_older_words_resumed` |
+//! | loading older bytes: a [`Pool::save`] from before the mark, a backup of the file | save and store after the insert and before the text; never load an older copy | `still_older_bytes_loaded` |
+//! | the text first, and then the save: a process that stops in between sends again | insert, save, store, and then the text | `still_sent_before_saved` |
+//! | preparing an empty set when [`Pool::load`] refuses, or when there is no file: every mark is gone, every text can go again | no text; call the desk; an empty set is begun by hand, once | `still_empty_after_bad_saved` |
+//! | `pool.save(&mut out)?;` and then storing `out`, all of it: the load is refused, and no text goes any more | store what the save gives: `store(pool.save(&mut out)?)`, or `Pool::save_to_vec` | `still_whole_buffer_stored` |
+//! | two services that load the same bytes: each makes its mark, and both send | one service has the file, and a lock keeps out a second | `still_loaded_twice` |
+//! | withdrawing a mark and not saving after it: the restarted service has the mark, and the text is lost | save and store after a withdrawal too | `still_withdrawal_unsaved` |
 //! | words of one's own type ([`Words`]) that are others each time | `&mut [u32]`, `Box<[u32]>` or `Vec<u32>` | `still_words_of_ones_own` |
 //! | leaving a loop over [`Answers`] by `break` or `?`: the texts of the rest are lost | read every answer; send each mark or withdraw it | `still_left_early` |
 //! | dropping a mark, or a list of answers by `let _ =`: texts are lost | send each mark or withdraw it | `still_mark_dropped` |
 //!
 //! # At most once
 //!
-//! A mark is set before its text goes out, in the words alone: who stores them does so after the insert and before the
-//! text. So a key gets at most one text for each insert that made a mark, and none at all if the process stops between
-//! the two, if the mark or a list of [`Answers`] is dropped, or if the gateway fails. Only the last can be mended by
-//! the host: [`Pool::withdraw`] takes the mark back, and a later insert makes another. If the gateway failed after the
+//! A mark is set before its text goes out, in the words alone: to have it after a restart, save and store it before the
+//! text too (below). So a key gets at most one text for each insert that made a mark, and none at all if the process stops
+//! between the two, if the mark or a list of [`Answers`] is dropped, or if the gateway fails. Only the last can be mended
+//! by the host: [`Pool::withdraw`] takes the mark back, and a later insert makes another. If the gateway failed after the
 //! text went out, the key then gets it twice: withdraw only what surely did not go.
+//!
+//! # Over a restart
+//!
+//! [`Pool::save`] gives the set as bytes, [`Pool::load`] makes any words the same set again: keys, routers, shape and
+//! weights, so that the next save gives the same bytes; slot numbers may differ. What is in the bytes is what was marked
+//! when they were saved. So the order is: **insert, save, store, and only then the text.** A process that stops before the
+//! store sent no text, and after the restart it does; one that stops between store and text loses that text. One save after
+//! a batch does for all its marks.
+//!
+//! Storing has its own order, or a power cut leaves half a file: write beside the old file, flush, rename over it, flush
+//! the folder. examples/restart.rs does this, and is tested with a kill and with a power cut at every step of it.
+//!
+//! A load that is refused ([`Refused::BadSaved`], [`Refused::NoFit`]) and a file that is not there say nothing about who
+//! was told. **Then nothing is sent.** An empty set in their place sends every text again, so a service never begins one by
+//! itself: somebody does, once, for a new installation.
+//!
+//! What a load refuses is all bytes that no save writes. A fault of the disk that makes another key of one is not among
+//! them: whoever fears that keeps a checksum beside the bytes.
 //!
 //! # Errors
 //!
@@ -80,12 +106,16 @@
 //!
 //! # Panics
 //!
-//! A call panics if the archive gives a code that does not belong to the operation, which the library is proved not to do;
-//! [`Pool::words_for`] panics outside its range. Nothing else does.
+//! A call panics if the archive gives a code that does not belong to the operation, or a save that says it wrote more bytes
+//! than it was lent, which the library is proved not to do; [`Pool::words_for`] and [`Pool::saved_bytes_for`] panic outside
+//! their range. Nothing else does.
 //!
 //! Lines that begin with "Proved:" name the library's theorems (docs/THEOREMS.md) that the sentence before rests on.
 #![no_std]
 #![deny(unsafe_op_in_unsafe_fn, missing_docs, missing_debug_implementations)]
+
+#[cfg(feature = "std")]
+extern crate std;
 
 mod answer;
 mod batch;

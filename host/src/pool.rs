@@ -95,11 +95,23 @@ impl Pool<&mut [u32]> {
     pub const fn words_for(slots: usize) -> usize {
         layout::words_for(slots)
     }
+
+    /// Bytes that are enough to save any pool of `slots` slots: 7 for each, and 4.
+    ///
+    /// # Panics
+    /// As [`Pool::words_for`].
+    ///
+    /// Proved: `save-few`.
+    #[must_use]
+    pub const fn saved_bytes_for(slots: usize) -> usize {
+        layout::saved_bytes_for(slots)
+    }
 }
 
 impl<W: Words> Pool<W> {
     /// Makes an empty set of any words. **Every mark that was in them is gone**, and whoever had a text can get it again:
-    /// it is for new words, never an answer to [`Inserted::NoRoom`]. Words with a set in them go to [`Pool::resume`].
+    /// it is for new words, never an answer to [`Inserted::NoRoom`] or to a refused [`Pool::load`]. Words with a set in them
+    /// go to [`Pool::resume`], saved bytes to [`Pool::load`].
     ///
     /// # Errors
     /// [`Refused::WrongLength`] alone; then no word changes. (Words that were handed over are dropped: lend them if you
@@ -122,8 +134,91 @@ impl<W: Words> Pool<W> {
         Ok(pool)
     }
 
-    /// The words as they are, to be stored or looked at. Stored words have the marks that were set by then: to be safe over
-    /// a restart, store them after the insert and before its text goes out, and never take up an older copy.
+    /// Makes any words the set that [`Pool::save`] wrote: the same keys, routers, shape and weights, so that the next save
+    /// writes the same bytes. Slots are numbered anew, from the root: 1, 2, .. and then the free ones.
+    ///
+    /// The pool has the marks that were set when the bytes were saved, and no later ones: never load older bytes. Where it
+    /// is refused, **send nothing and do not begin empty**: [`Pool::prepare`] in its place forgets every mark.
+    ///
+    /// ```
+    /// use chromatic::{Inserted, Pool};
+    ///
+    /// let mut words = [0; Pool::words_for(127)];
+    /// let mut pool = Pool::prepare(&mut words[..])?;
+    /// assert!(matches!(pool.insert(4411)?, Inserted::NewlyMarked(_)));
+    /// let mut bytes = [0; Pool::saved_bytes_for(127)];
+    /// let saved = pool.save(&mut bytes)?; // store this, and then send the text
+    ///
+    /// let mut other = [77; Pool::words_for(127)]; // after the restart
+    /// let mut pool = Pool::load(&mut other[..], saved)?;
+    /// assert!(matches!(pool.insert(4411)?, Inserted::KeyPresent));
+    /// # Ok::<(), chromatic::Refused>(())
+    /// ```
+    ///
+    /// # Errors
+    /// [`Refused::WrongLength`]; [`Refused::BadSaved`] for bytes that no save writes; [`Refused::NoFit`] if these are words
+    /// for another number of slots than were saved. Then no word changes. (Words that were handed over are dropped.)
+    ///
+    /// Proved: `load-after-save`, `save-again`, `load-codes`, `load-refused`.
+    pub fn load(mut words: W, saved: &[u8]) -> Result<Pool<W>, Refused> {
+        let [code, number] = halves(raw::load(&mut words, saved));
+        Refused::check(code, number)?;
+        Ok(Pool { words })
+    }
+
+    /// Writes the set to the beginning of `out`, as bytes that [`Pool::load`] takes, and gives these bytes. **Store what it
+    /// gives, and not `out`**: the later bytes of `out` stay as they were, and a load refuses them. Changes no word. The same
+    /// set, with the same routers, shape and weights, is always the same bytes.
+    ///
+    /// [`Pool::saved_bytes_for`] gives room for any pool of so many slots, [`Pool::most_saved_bytes`] for this one as it is.
+    /// To be safe over a restart, save after the insert and store the bytes before its text goes out: examples/restart.rs
+    /// does.
+    ///
+    /// # Errors
+    /// [`Refused::NoFit`] if the bytes are more than `out` has room for, or as [`Pool::audit`]; then no byte is written.
+    ///
+    /// Proved: `load-after-save`, `save-same`, `save-codes`, `save-refused`.
+    pub fn save<'o>(&self, out: &'o mut [u8]) -> Result<&'o [u8], Refused> {
+        let [code, number] = halves(raw::save(self.words(), out));
+        Refused::check(code, number)?;
+        Ok(&out[..number as usize])
+    }
+
+    /// As [`Pool::save`], with the feature `std`: the bytes, in memory of their own.
+    ///
+    /// ```
+    /// use chromatic::Pool;
+    ///
+    /// let pool = Pool::prepare(vec![0; Pool::words_for(127)])?;
+    /// let bytes = pool.save_to_vec()?;
+    /// assert_eq!(bytes, [127, 0]); // 127 slots, 0 nodes
+    /// assert_eq!(Pool::load(vec![77; Pool::words_for(127)], &bytes)?.words(), pool.words());
+    /// # Ok::<(), chromatic::Refused>(())
+    /// ```
+    ///
+    /// # Errors
+    /// As [`Pool::audit`].
+    #[cfg(feature = "std")]
+    pub fn save_to_vec(&self) -> Result<std::vec::Vec<u8>, Refused> {
+        let mut bytes = std::vec![0; self.most_saved_bytes()?];
+        let count = self.save(&mut bytes)?.len();
+        bytes.truncate(count);
+        Ok(bytes)
+    }
+
+    /// Bytes that are enough to save this pool as it is: 7 for each node in the tree, and 4.
+    ///
+    /// # Errors
+    /// As [`Pool::audit`].
+    ///
+    /// Proved: `save-few`.
+    pub fn most_saved_bytes(&self) -> Result<usize, Refused> {
+        self.figure(1).map(|nodes| layout::saved_bytes(nodes as usize))
+    }
+
+    /// The words as they are, to be looked at. To keep a set over a restart there are [`Pool::save`] and [`Pool::load`];
+    /// whoever stores the words themselves does so after the insert and before its text goes out too, and never takes up an
+    /// older copy.
     pub fn words(&self) -> &[u32] {
         &self.words
     }
@@ -321,7 +416,7 @@ impl<W: Words> fmt::Debug for Pool<W> {
     }
 }
 
-/// Code and number of a batch call: "its code times 4,294,967,296 plus its number".
+/// Code and number of a call: "its code times 4,294,967,296 plus its number".
 fn halves(answer: u64) -> [u32; 2] {
     [(answer >> 32) as u32, answer as u32]
 }

@@ -7,7 +7,7 @@
 
 mod c {
     extern "C" {
-        pub fn chromatic_interface_1() -> u32;
+        pub fn chromatic_interface_2() -> u32;
         pub fn chromatic_prepare(pool: *mut u32, pool_len: usize) -> u32;
         pub fn chromatic_audit(pool: *const u32, pool_len: usize) -> u32;
         pub fn chromatic_report(pool: *const u32, pool_len: usize, index: u32) -> u64;
@@ -19,15 +19,17 @@ mod c {
             answers: *mut u32,
             answers_len: usize,
         ) -> u64;
+        pub fn chromatic_save(pool: *const u32, pool_len: usize, out: *mut u8, out_len: usize) -> u64;
+        pub fn chromatic_load(pool: *mut u32, pool_len: usize, saved: *const u8, saved_len: usize) -> u64;
     }
 }
 
-/// The number of the interface that this crate is made for, 1; docs/INTERFACE.md says what each number has. The library's
+/// The number of the interface that this crate is made for, 2; docs/INTERFACE.md says what each number has. The library's
 /// function is named for it, and every function here calls it, so that an archive of another interface does not link.
 #[must_use]
 pub fn interface() -> u32 {
     // SAFETY: it takes nothing and changes nothing.
-    unsafe { c::chromatic_interface_1() }
+    unsafe { c::chromatic_interface_2() }
 }
 
 /// Makes a pool empty. Gives 0; or 1, changing nothing, if the length is not 4 + 4C with C from 1 to 1,023. (C slots hold
@@ -68,4 +70,27 @@ pub fn batch(pool: &mut [u32], batch: &[u8], answers: &mut [u32]) -> u64 {
     // SAFETY: pointers and lengths are those of live slices; the two that are written are lent exclusively, so no two
     // overlap.
     unsafe { c::chromatic_batch(pool.as_mut_ptr(), pool.len(), batch.as_ptr(), batch.len(), answers.as_mut_ptr(), answers.len()) }
+}
+
+/// Writes the set as bytes to the beginning of `out`; bytes after those stay. Gives how many they are, at most 7N + 4 for N
+/// nodes; or, writing nothing, a refusal's code (1, 2 or 14, tried in that order) times 4,294,967,296.
+///
+/// Proved: `save-codes`, `save-few`, `save-refused`.
+#[must_use = "how many bytes are the saved set is in here; a refused call saved nothing"]
+pub fn save(pool: &[u32], out: &mut [u8]) -> u64 {
+    let _ = interface();
+    // SAFETY: pointers and lengths are those of live slices; the one that is written is lent exclusively, so they do not
+    // overlap.
+    unsafe { c::chromatic_save(pool.as_ptr(), pool.len(), out.as_mut_ptr(), out.len()) }
+}
+
+/// Makes the pool, whatever its words are, the set that was saved. Gives N, its nodes; or, changing nothing, a refusal's
+/// code (1, 13 or 14, tried in that order) times 4,294,967,296.
+///
+/// Proved: `load-after-save`, `load-codes`, `load-refused`.
+#[must_use = "a refused call loaded nothing, and the pool's words are as they were"]
+pub fn load(pool: &mut [u32], saved: &[u8]) -> u64 {
+    let _ = interface();
+    // SAFETY: as above.
+    unsafe { c::chromatic_load(pool.as_mut_ptr(), pool.len(), saved.as_ptr(), saved.len()) }
 }

@@ -20,6 +20,7 @@ dependent() {
     fi
     one "the crate in a workspace that has this repository below it" "$log" in_a_workspace
     one "the crate without std and without an allocator" "$log" bare
+    one "the crate with std: a saved set as a Vec" "$log" with_std
     one "README.md's line for C" "$log" line_for_c
     one "in C a result that is not used is a warning" "$log" c_unused
     if [ -n "$shipped" ]; then one "the library calls no allocator" "$log" no_allocator; fi
@@ -103,7 +104,7 @@ archive_replaced() {
     other_interface "$there/lib$lib.a" || return 1
     does_not_link env CHROMATIC_ARCHIVE="$there" cargo build --offline --quiet --manifest-path "$strange/replaced/Cargo.toml" || return 1
     # each function of raw.rs by itself
-    for call in 'prepare(&mut [])' 'audit(&[])' 'report(&[], 1)' 'batch(&mut [], &[], &mut [])'; do
+    for call in 'prepare(&mut [])' 'audit(&[])' 'report(&[], 1)' 'batch(&mut [], &[], &mut [])' 'save(&[], &mut [])' 'load(&mut [], &[])'; do
         echo "fn main() { println!(\"{}\", chromatic::raw::$call); }" >"$strange/replaced/src/main.rs"
         does_not_link env CHROMATIC_ARCHIVE="$there" cargo build --offline --quiet --release --manifest-path "$strange/replaced/Cargo.toml" || return 1
     done
@@ -183,8 +184,25 @@ fn panic(_: &core::panic::PanicInfo) -> ! {
 pub extern "C" fn marked(words: &mut [u32; 12]) -> bool {
     chromatic::Pool::resume(&mut words[..]).is_ok_and(|mut pool| matches!(pool.insert(1), Ok(chromatic::Inserted::NewlyMarked(_))))
 }
+#[no_mangle]
+pub extern "C" fn restarted(words: &mut [u32; 12], saved: &mut [u8; chromatic::Pool::saved_bytes_for(2)]) -> bool {
+    chromatic::Pool::load(&mut words[..], saved).is_ok_and(|pool| pool.save(saved).is_ok())
+}
 EOF
     rustc --edition 2021 --crate-type staticlib -C panic=abort -O -o "$strange/libbare.a" --extern chromatic="$target/native/release/libchromatic.rlib" "$strange/bare.rs"
+}
+
+with_std() {
+    fresh_crate "$strange/with_std"
+    sed 's,^chromatic = { ,&features = ["std"]\, ,' "$strange/with_std/Cargo.toml" >"$strange/toml" && mv "$strange/toml" "$strange/with_std/Cargo.toml"
+    cat >"$strange/with_std/src/main.rs" <<'EOF'
+fn main() -> Result<(), chromatic::Refused> {
+    let pool = chromatic::Pool::prepare(vec![0; chromatic::Pool::words_for(127)])?;
+    assert_eq!(pool.save_to_vec()?, [127, 0]);
+    Ok(())
+}
+EOF
+    cargo_in "$strange/with_std" run
 }
 
 line_for_c() {
@@ -196,7 +214,7 @@ line_for_c() {
 }
 
 c_unused() {
-    for call in 'prepare(p, 8)' 'audit(p, 8)' 'report(p, 8, 1)' 'batch(p, 8, 0, 0, 0, 0)'; do
+    for call in 'prepare(p, 8)' 'audit(p, 8)' 'report(p, 8, 1)' 'batch(p, 8, 0, 0, 0, 0)' 'save(p, 8, 0, 0)' 'load(p, 8, 0, 0)'; do
         printf '#include <chromatic.h>\nuint64_t f(uint32_t *p) { return chromatic_%s; }\n' "$call" >"$strange/used.c"
         printf '#include <chromatic.h>\nvoid f(uint32_t *p) { chromatic_%s; }\n' "$call" >"$strange/unused.c"
         cc -Wall -Werror -I "$root/host/include" -c -o "$strange/c.o" "$strange/used.c" || return 1

@@ -1,5 +1,6 @@
-/* These calls write no pool word: searches, refused commands, a settle with nothing to do, and calls refused whole, which write no answer
- * word either. The pool (and there the answers) lie in a page that may only be read, and a write would end the test by a signal. */
+/* These calls write no pool word: searches, refused commands, a settle with nothing to do, a save, and calls refused whole, which write no
+ * answer word and no output byte either. The pool (and there the answers or the output) lie in a page that may only be read, and a write
+ * would end the test by a signal. */
 #define _DEFAULT_SOURCE
 #include "../include/chromatic.h"
 #include <stdio.h>
@@ -16,10 +17,33 @@ static void check(int holds, const char *what) {
     }
 }
 
+/* A save writes its bytes, and those past the count and every pool word stay; a refused save or load writes nothing. `out` is two pages,
+ * of which the second may only be read. */
+static void saving(uint32_t *pool, size_t words, uint8_t *out, size_t page) {
+    const uint8_t cut_short[] = {7, 7, 3}, other_slots[] = {3, 0};
+    uint8_t *end = out + page;
+    size_t count;
+
+    check(mprotect(end, page, PROT_READ) == 0, "the second page may only be read");
+    check(mprotect(pool, page, PROT_READ) == 0, "the pool may only be read");
+    count = (size_t)chromatic_save(pool, words, out, page);
+    check(count > 2 && count <= CHROMATIC_SAVED_BYTES(7), "save");
+    check(chromatic_save(pool, words, end - count, count + page) == count, "a save up to the page that may only be read");
+    check(mprotect(out, page, PROT_READ) == 0, "the output may only be read");
+    check(CHROMATIC_CODE(chromatic_save(pool, words - 1, out, page)) == CHROMATIC_WRONG_LENGTH, "save refused with 1");
+    check(CHROMATIC_CODE(chromatic_save(pool, words, out, count - 1)) == CHROMATIC_NO_FIT, "save refused with 14");
+    check(CHROMATIC_CODE(chromatic_load(pool, words - 1, out, count)) == CHROMATIC_WRONG_LENGTH, "load refused with 1");
+    check(CHROMATIC_CODE(chromatic_load(pool, words, cut_short, sizeof cut_short)) == CHROMATIC_BAD_SAVED, "load refused with 13");
+    check(CHROMATIC_CODE(chromatic_load(pool, words, other_slots, sizeof other_slots)) == CHROMATIC_NO_FIT, "load refused with 14");
+    check(mprotect(pool, page, PROT_READ | PROT_WRITE) == 0, "the pool may be written");
+    check(chromatic_load(pool, words, out, count) == 7, "load, from bytes that may only be read");
+}
+
 int main(void) {
     const size_t page = (size_t)sysconf(_SC_PAGESIZE), words = CHROMATIC_POOL_WORDS(7);
     uint32_t *pool = mmap(NULL, page, PROT_READ | PROT_WRITE, MAP_PRIVATE | MAP_ANONYMOUS, -1, 0);
     uint32_t *answers = mmap(NULL, page, PROT_READ | PROT_WRITE, MAP_PRIVATE | MAP_ANONYMOUS, -1, 0);
+    uint8_t *out = mmap(NULL, 2 * page, PROT_READ | PROT_WRITE, MAP_PRIVATE | MAP_ANONYMOUS, -1, 0);
     const uint8_t filling[] = {CHROMATIC_INSERT, 10, CHROMATIC_INSERT, 20, CHROMATIC_INSERT, 30, CHROMATIC_INSERT, 40, CHROMATIC_SETTLE, 99};
     const uint8_t asking[] = {CHROMATIC_SEARCH, 10, CHROMATIC_SEARCH, 15, CHROMATIC_INSERT, 10, CHROMATIC_INSERT, 15, CHROMATIC_DELETE, 15,
                               CHROMATIC_STEP, 0, 1, CHROMATIC_STEP, 1, 9, CHROMATIC_STEP, 1, 1, CHROMATIC_SETTLE, 9};
@@ -27,7 +51,7 @@ int main(void) {
                               CHROMATIC_NO_INNER_NODE, CHROMATIC_NO_KIND, CHROMATIC_CONDITION_FALSE, CHROMATIC_GOOD};
     const size_t asked = sizeof codes / sizeof codes[0], room = asked * CHROMATIC_ANSWER_WORDS;
 
-    if (pool == MAP_FAILED || answers == MAP_FAILED) {
+    if (pool == MAP_FAILED || answers == MAP_FAILED || out == MAP_FAILED) {
         printf("writes_nothing.c: no pages\n");
         return 1;
     }
@@ -40,10 +64,11 @@ int main(void) {
     check(CHROMATIC_CODE(chromatic_batch(pool, words - 1, asking, sizeof asking, answers, room)) == CHROMATIC_WRONG_LENGTH, "refused with 1");
     check(CHROMATIC_CODE(chromatic_batch(pool, words, asking, sizeof asking - 1, answers, room)) == CHROMATIC_BAD_COMMAND, "refused with 3");
     check(CHROMATIC_CODE(chromatic_batch(pool, words, asking, sizeof asking, answers, room - 1)) == CHROMATIC_FEW_ANSWERS, "refused with 4");
-    check(mprotect(pool, page, PROT_READ | PROT_WRITE) == 0, "the pool may be written");
+    saving(pool, words, out, page);
     pool[2] += 1;
     check(mprotect(pool, page, PROT_READ) == 0, "the pool may only be read");
     check(CHROMATIC_CODE(chromatic_batch(pool, words, asking, sizeof asking, answers, room)) == CHROMATIC_RULES_BROKEN, "refused with 2");
+    check(CHROMATIC_CODE(chromatic_save(pool, words, out, page)) == CHROMATIC_RULES_BROKEN, "save refused with 2");
     check(chromatic_prepare(pool, words - 1) == CHROMATIC_WRONG_LENGTH, "prepare refused");
     return failed;
 }

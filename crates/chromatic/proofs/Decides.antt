@@ -1,7 +1,7 @@
--- Each export's contract decides its result and every lent word. Assumes nothing.
+-- Each export's contract decides its result and every lent word and byte. Assumes nothing.
 use Rattle.tree.proofs.Deciding.{DecidesResult, DecidesWords, equal}
-use Rattle.chromatic.proofs.chromatic_interface_1.Kinds as interface-kinds
-use Rattle.chromatic.proofs.chromatic_interface_1.Reads as interface-reads
+use Rattle.chromatic.proofs.chromatic_interface_2.Kinds as interface-kinds
+use Rattle.chromatic.proofs.chromatic_interface_2.Reads as interface-reads
 use Rattle.chromatic.proofs.chromatic_prepare.Kinds as prepare-kinds
 use Rattle.chromatic.proofs.chromatic_prepare.Reads as prepare-reads
 use Rattle.chromatic.proofs.chromatic_audit.Kinds as audit-kinds
@@ -10,6 +10,10 @@ use Rattle.chromatic.proofs.chromatic_report.Kinds as report-kinds
 use Rattle.chromatic.proofs.chromatic_report.Reads as report-reads
 use Rattle.chromatic.proofs.chromatic_batch.Kinds as batch-kinds
 use Rattle.chromatic.proofs.chromatic_batch.Reads as batch-reads
+use Rattle.chromatic.proofs.chromatic_save.Kinds as save-kinds
+use Rattle.chromatic.proofs.chromatic_save.Reads as save-reads
+use Rattle.chromatic.proofs.chromatic_load.Kinds as load-kinds
+use Rattle.chromatic.proofs.chromatic_load.Reads as load-reads
 
 pub interface-decides : DecidesResult 0 interface-kinds.ps interface-kinds.r interface-reads.Post
 interface-decides κs a x y e f p q = equal p q
@@ -34,3 +38,15 @@ batch-decides-pool κs a x y e f p q = equal (p .1 .0) (q .1 .0)
 
 pub batch-decides-answers : DecidesWords 3 batch-kinds.ps batch-kinds.r (λ κs e. e .1 .1 .0 .now) batch-reads.Post
 batch-decides-answers κs a x y e f p q = equal (p .1 .1) (q .1 .1)
+
+pub save-decides : DecidesResult 2 save-kinds.ps save-kinds.r save-reads.Post
+save-decides κs a x y e f p q = equal (p .0) (q .0)
+
+pub save-decides-out : DecidesWords 2 save-kinds.ps save-kinds.r (λ κs e. e .1 .0 .now) save-reads.Post
+save-decides-out κs a x y e f p q = equal (p .1) (q .1)
+
+pub load-decides : DecidesResult 2 load-kinds.ps load-kinds.r load-reads.Post
+load-decides κs a x y e f p q = equal (p .0) (q .0)
+
+pub load-decides-pool : DecidesWords 2 load-kinds.ps load-kinds.r (λ κs e. e .0 .now) load-reads.Post
+load-decides-pool κs a x y e f p q = equal (p .1) (q .1)

@@ -1,11 +1,11 @@
 -- What the exports' numbers say to a host: a batch's word is its code and its number and nothing is lost (`returned-parts`),
 -- since a call's number is small (`number-small`); a report's number is 0 for a refused pool and for any other index
 -- (`number-none`, `number-other`). Assumes nothing.
-use mathlib.Core.Path.{_≡_, refl}
+use mathlib.Core.Path.{_≡_}
 use mathlib.Core.Logic.{_⊎_}
 use mathlib.Core.Bool.{false}
 use mathlib.Core.List.{List}
-use Prim.Native.Nat.{ℕ, _+_, _*_, _/_, _%_, _≤_, _<_}
+use Prim.Native.Nat.{ℕ, _/_, _%_, _≤_, _<_}
 use native.Mathlib.Omega.{arith}
 use lib.ListN.{length}
 use Rattle.format.specs.Words.{lengthGood}
@@ -17,7 +17,7 @@ use Rattle.commands.proofs.Running.{batch-bad}
 use Rattle.report.specs.Report.{reportOf}
 use Rattle.report.proofs.Exact.{number-refused}
 use Rattle.report.proofs.Reports.{figure-other}
-use Rattle.chromatic.specs.Exports.{numberAt, codeUnit, returned}
+use Rattle.chromatic.specs.Exports.{numberAt, codeUnit, inOneWord, returned}
 
 -- A call's number is 0, or a byte's place in a batch of at most 2,816 bytes.
 pub number-small : (p bytes out : List ℕ) → (batch p bytes out) .number ≤ 2816
@@ -32,13 +32,13 @@ number-small p bytes out = go (ending p bytes out)
     go (ran l e h r) = omega arith
 
 -- a code and a number in one word
-pub one-word : (k : Call) {a b : ℕ} → a ≡ k .code → b ≡ k .number → a * codeUnit + b ≡ returned k
-unfolding returned
-one-word k e f = rw (e, f)
+pub word-parts : (code number : ℕ) → number < codeUnit → (inOneWord code number / codeUnit ≡ code) × (inOneWord code number % codeUnit ≡ number)
+unfolding inOneWord
+word-parts code number h = (omega arith, omega arith)
 
 pub returned-parts : (k : Call) → k .number < codeUnit → (returned k / codeUnit ≡ k .code) × (returned k % codeUnit ≡ k .number)
 unfolding returned
-returned-parts k h = (omega arith, omega arith)
+returned-parts k h = word-parts (k .code) (k .number) h
 
 pub number-none : (p : List ℕ) (i : ℕ) → (lengthGood p ≡ false) ⊎ (rulesHold p ≡ false) → numberAt p i ≡ 0
 unfolding numberAt

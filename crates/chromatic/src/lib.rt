@@ -1,23 +1,32 @@
-// What a host calls: prepare, audit, report and batch, on numbers and lent slices. Each takes any words and any bytes. And one function whose
+// What a host calls: prepare, audit, report, batch, save and load, on numbers and lent slices. Each takes any words and any bytes. And one function whose
 // name carries the number of the interface.
+use load::load;
 use pool::audit;
 use pool::prepare;
 use report::report;
+use save::save;
 ghost use mathlib.Core.Path.{_≡_};
 ghost use Rattle.encoding.specs.Batch.{batch as call};
 ghost use Rattle.format.specs.Audit.{auditCode};
 ghost use Rattle.pool.specs.Results.{prepareCode, preparedWords};
-ghost use Rattle.chromatic.specs.Exports.{numberAt, returned, interfaceNumber};
+ghost use Rattle.saved.specs.Calls.{saveCall, loadCall};
+ghost use Rattle.chromatic.specs.Exports.{numberAt, inOneWord, returned, returnedAnswer, interfaceNumber};
 
-// 01: "The exported batch returns its code times 4,294,967,296 plus its number."
+// 01: "The exported batch returns its code times 4,294,967,296 plus its number." So do save and load.
 const CODE_UNIT: u64 = 4294967296;
 
-const INTERFACE: u32 = 1;
+fn one_word(code: u32, number: u32) -> u64
+    ensures { λ r. ⌜ r ≡ inOneWord code number ⌝ }
+{
+    code as u64 * CODE_UNIT + number as u64
+}
+
+const INTERFACE: u32 = 2;
 
 // A host that was made for another interface calls another name, and does not link. The number goes up, here and in the name, with each
 // change of a signature, of what a number means, of the pool's words or of what is accepted.
 #[no_mangle]
-pub extern "C" fn chromatic_interface_1() -> u32
+pub extern "C" fn chromatic_interface_2() -> u32
     ensures number { λ r. ⌜ r ≡ interfaceNumber ⌝ }
 {
     INTERFACE
@@ -55,5 +64,25 @@ pub extern "C" fn chromatic_batch(pool: &mut [u32], batch: &[u8], answers: &mut 
     ensures answers { λ _. ⌜ now (answers .exit) ≡ (call (now (pool .entry)) (now (batch .entry)) (now (answers .entry))) .answers ⌝ }
 {
     let called = batch::batch(pool, batch, answers);
-    called.code as u64 * CODE_UNIT + called.number as u64
+    one_word(called.code, called.number)
+}
+
+// 02 (i): "The writer answers 0 and the byte count [..]; output bytes past the count stay."
+#[no_mangle]
+pub extern "C" fn chromatic_save(pool: &[u32], out: &mut [u8]) -> u64
+    ensures result { λ r. ⌜ r ≡ returnedAnswer ((saveCall (now (pool .entry)) (now (out .entry))) .answer) ⌝ }
+    ensures out { λ _. ⌜ now (out .exit) ≡ (saveCall (now (pool .entry)) (now (out .entry))) .left ⌝ }
+{
+    let a = save(pool, out);
+    one_word(a.code(), a.number())
+}
+
+// 02 (i): "the reader [answers] 0 and N". The pool may hold any words.
+#[no_mangle]
+pub extern "C" fn chromatic_load(pool: &mut [u32], saved: &[u8]) -> u64
+    ensures result { λ r. ⌜ r ≡ returnedAnswer ((loadCall (now (pool .entry)) (now (saved .entry))) .answer) ⌝ }
+    ensures pool { λ _. ⌜ now (pool .exit) ≡ (loadCall (now (pool .entry)) (now (saved .entry))) .left ⌝ }
+{
+    let a = load(pool, saved);
+    one_word(a.code(), a.number())
 }

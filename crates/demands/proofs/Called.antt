@@ -17,9 +17,10 @@ use Rattle.set.proofs.Passing.{passing-state}
 use Rattle.encoding.specs.Numbers.{Bytes}
 use Rattle.encoding.proofs.Endings.{Ending, length-refused, bad-command, few-answers, rules-refused, ran, ending}
 use Rattle.encoding.proofs.Performs.{AllSmall, run-sound}
-use Rattle.demands.specs.Calls.{Entry, logOf, Calls, no-call, then-call}
+use Rattle.demands.specs.Calls.{Entry, logOf, Calls, no-call, then-call, then-restart}
 use Rattle.commands.proofs.Running.{read-small}
 use Rattle.demands.proofs.Runs.{entriesOf, log-none, log-ran}
+use Rattle.demands.proofs.Restarting.{restart-passing}
 
 -- the commands cs ran
 pub record Ran (p bytes out : List ℕ) (cs : List Command) : Type 0 where
@@ -81,3 +82,4 @@ module _ {p : List ℕ} (g : Passing p) (bytes out : List ℕ) (b : Bytes bytes)
 pub calls-passing : {p q : List ℕ} {log : List Entry} → Passing p → Calls p log q → Passing q
 calls-passing g no-call = g
 calls-passing g (then-call before bytes out b) = call-passing (calls-passing g before) bytes out b
+calls-passing g (then-restart before R) = restart-passing (calls-passing g before) R

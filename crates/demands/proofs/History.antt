@@ -3,6 +3,7 @@
 -- that were inserted with code 0 and not since deleted with code 0 (`history`, `history-keys`); search finds exactly those
 -- (`history-search`), and so does a search command anywhere in a further call (`search-tells`). From any pool that passes the audit it
 -- has these, and of the keys that were there those not since deleted with code 0 (`history-from`, `history-from-keys`, and so on).
+-- Restarts may come between the calls: they move no key.
 -- Why: an insert with code 0 adds its key and no other, a delete with code 0 takes its key and no other, and nothing else moves a key
 -- (crate tree); so after each command the set is what the log tells. Assumes nothing.
 use mathlib.Core.Path.{_≡_, refl, ap, sym, _∙_}
@@ -37,11 +38,12 @@ use Rattle.tree.proofs.Moves.{settle-keeps-keys}
 use Rattle.set.proofs.Members.{member-shown}
 use Rattle.set.proofs.Passing.{passing-state}
 use Rattle.set.proofs.Promises.{nodes-exact, empty-says, prepare-passing, prepare-says, search-codes}
-use Rattle.demands.specs.Calls.{Entry, entries, logOf, Calls, no-call, then-call, tells, toldFrom, told, InsertedSince, KeptOrInserted, SearchTells}
+use Rattle.demands.specs.Calls.{Entry, entries, logOf, Calls, no-call, then-call, then-restart, tells, toldFrom, told, InsertedSince, KeptOrInserted, SearchTells}
 use Rattle.demands.proofs.Told.{other-operation, other-key, other-code, tells-insert, tells-delete, told-append, told-from-exactly, told-exactly}
 use Rattle.demands.proofs.Runs.{entry, entriesOf}
 use Rattle.demands.proofs.Called.{Result, call-kept, call-did, call-result, call-ran, calls-passing}
 use Rattle.demands.proofs.Ends.{command-words}
+use Rattle.demands.proofs.Restarting.{restart-keys}
 
 -- One command: what is in the set after it is what its entry tells.
 module _ (x : ℕ) (c : Command) (S : State) (sound : Sound S) where
@@ -110,6 +112,7 @@ calls-told g no-call x = refl
 calls-told {p} g (then-call {log} {q} calls bytes out b) x =
     call-told (calls-passing g calls) bytes out b x
     ∙ (ap (λ (n : ℕ). toldFrom x n (logOf q bytes out)) (calls-told g calls x) ∙ sym (told-append x (member x p) log (logOf q bytes out)))
+calls-told g (then-restart calls R) x = restart-keys (calls-passing g calls) R x ∙ calls-told g calls x
 
 -- From any pool that passes the audit, with its keys: a pool that is taken up again.
 module _ {p q : List ℕ} {log : List Entry} (g : Passing p) (calls : Calls p log q) where

@@ -1,4 +1,5 @@
 pub mod Runs
+pub mod Restarting
 pub mod Called
 pub mod Ends
 pub mod Codes

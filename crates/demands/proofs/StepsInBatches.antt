@@ -32,9 +32,10 @@ use Rattle.set.specs.Set.{Passing}
 use Rattle.set.specs.Balance.{boundNumber}
 use Rattle.set.proofs.Passing.{passing-state}
 use Rattle.set.proofs.Balancing.{bound-shown}
-use Rattle.demands.specs.Calls.{Entry, logOf, Calls, no-call, then-call, isOf, stepsOf, stepsIn, NoUpdate, NoUpdates}
+use Rattle.demands.specs.Calls.{Entry, logOf, Calls, no-call, then-call, then-restart, isOf, stepsOf, stepsIn, NoUpdate, NoUpdates}
 use Rattle.demands.proofs.Runs.{entry, entriesOf}
 use Rattle.demands.proofs.Called.{Result, call-kept, call-did, call-result, calls-passing}
+use Rattle.demands.proofs.Restarting.{restart-bound}
 
 -- The steps of an entry: of a step at most one, and none if it is refused; of a settle its number.
 module _ (e : Entry) where
@@ -120,6 +121,7 @@ steps-in-batches g no-call u = omega arith
 steps-in-batches g (then-call {log} {q} calls bytes out b) u =
     let s = no-updates-append log (logOf q bytes out) u in
     omega (arith, steps-append log (logOf q bytes out), steps-in-batches g calls (s .0), call-falls (calls-passing g calls) bytes out b (s .1))
+steps-in-batches g (then-restart calls R) u = omega (arith, restart-bound (calls-passing g calls) R, steps-in-batches g calls u)
 
 pub steps-at-most : {p q : List ℕ} {log : List Entry} → Passing p → Calls p log q → NoUpdates log → stepsIn log ≤ boundNumber p
 steps-at-most g calls u = omega (arith, steps-in-batches g calls u)

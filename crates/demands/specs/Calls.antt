@@ -1,13 +1,14 @@
--- Sequences of batch calls and their log (RULES 13): each command that ran, with the two answer words that it got. All of it can be seen
+-- Sequences of batch calls and restarts, and their log (RULES 13): each command that ran, with the two answer words that it got. All of it can be seen
 -- from outside: bytes, answer words, codes. What the demands say of such sequences is proved in proofs/.
 use mathlib.Core.Path.{_≡_}
 use mathlib.Core.Logic.{_≢_, _↔_, _⊎_}
 use mathlib.Core.Bool.{Bool, true, false, _&&_}
 use mathlib.Core.List.{List, [], _∷_, _++_}
 use lib.Dec.{eqb}
-use lib.ListN.{getD, drop}
+use lib.ListN.{getD, take, drop}
 use Prim.Native.Nat.{ℕ, _+_}
 use Rattle.tree.specs.declared.Refusal.the-variants.{KeyAbsent}
+use Rattle.tree.specs.declared.Answer.the-variants.{Done}
 use Rattle.tree.specs.Codes.{code}
 use Rattle.encoding.specs.declared.Operation.{Operation}
 use Rattle.encoding.specs.declared.Operation.the-variants.{Insert, Delete, Step, Settle}
@@ -16,6 +17,7 @@ use Rattle.encoding.specs.Numbers.{Bytes}
 use Rattle.encoding.specs.Operations.{operationNumber}
 use Rattle.format.specs.Words.{wordsOf}
 use Rattle.format.specs.Audit.{stateOf}
+use Rattle.saved.specs.Calls.{saveCall, loadCall}
 use Rattle.encoding.specs.Batch.{Batch, commands, badAt, readBatch, runAll, Call, batch}
 
 -- a command that ran, with its answer's code and number
@@ -37,10 +39,23 @@ logRead (commands cs) r = elim (eqb (r .code) 0) [ true ↦ entries cs (r .answe
 unfoldable pub logOf : (p bytes out : List ℕ) → List Entry
 logOf p bytes out = logRead (readBatch bytes) (batch p bytes out)
 
--- Batch calls one after the other, from the words p to the words q: with any bytes and any answer words, refused ones among them.
+-- 02 (i) (RULES 13.2, 13.3): a restart from the words q to the words r. The words q are saved into `out`, and its first bytes, as many as save
+-- answers, are loaded into any words; both calls answer 0.
+pub record Restart (q r : List ℕ) : Type 0 where
+  pub out : List ℕ
+  pub words : List ℕ
+  pub count : ℕ
+  pub nodes : ℕ
+  pub is-saved : (saveCall q out) .answer ≡ Done count
+  pub is-loaded : (loadCall words (take count ((saveCall q out) .left))) .answer ≡ Done nodes
+  pub leaves : r ≡ (loadCall words (take count ((saveCall q out) .left))) .left
+
+-- Batch calls one after the other, from the words p to the words q: with any bytes and any answer words, refused ones among them; and
+-- restarts between them, which no log shows.
 pub data Calls (p : List ℕ) : List Entry → List ℕ → Type 0 where
   no-call : Calls p [] p
   then-call : {log : List Entry} {q : List ℕ} → Calls p log q → (bytes out : List ℕ) → Bytes bytes → Calls p (log ++ logOf q bytes out) ((batch q bytes out) .pool)
+  then-restart : {log : List Entry} {q r : List ℕ} → Calls p log q → Restart q r → Calls p log r
 
 -- an entry that is this operation; on this key; accepted: with code 0
 unfoldable pub isOf : Operation → Entry → Bool

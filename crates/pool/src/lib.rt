@@ -63,7 +63,7 @@ pub fn allowance(pool: &[u32]) -> u32
 
 // What a walk over a tree finds: a fault; or how many of the nodes that it may have are left over, and what the weights from the edge
 // above it down to each leaf add up to.
-enum Walk {
+pub enum Walk {
     Bad,
     Whole(u32, u32),
 }
@@ -71,8 +71,9 @@ enum Walk {
 // The largest such sum: L, and the weight of the root, which counts in nothing and is taken off at the end.
 const MOST_SUM: u32 = MOST_LEVEL + ROOT_WEIGHT;
 
-// A slot whose left is 0, as a leaf with its key from lo to below hi.
-fn walk_leaf(c: Slot, lo: u64, hi: u64, rest: u32) -> Walk
+// A slot whose left is 0, as a leaf with its key from lo to below hi. This and `join` are the rules of a tree's leaves and nodes, for the
+// audit's walk and for the reader of the saved form.
+pub fn walk_leaf(c: Slot, lo: u64, hi: u64, rest: u32) -> Walk
     ensures { λ r. ⌜ r ≡ leafWalk c lo hi rest ⌝ }
 {
     if c.right != 0 {
@@ -94,7 +95,7 @@ fn walk_leaf(c: Slot, lo: u64, hi: u64, rest: u32) -> Walk
 }
 
 // An edge of weight w to an inner node, whose subtrees have the sums al and bl.
-fn join(w: u32, rest: u32, al: u32, bl: u32) -> Walk
+pub fn join(w: u32, rest: u32, al: u32, bl: u32) -> Walk
     ensures { λ r. ⌜ r ≡ joinWalk w rest al bl ⌝ }
 {
     if al != bl {

@@ -52,13 +52,13 @@ isIn-once x S g = sought x S g (λ e i. omega arith) (λ t e f i. omega arith) (
 
 -- Prepare
 
-upwards-none : (s a n : ℕ) → ((i : ℕ) → i < n → s ≢ a + i) → countIn s (upwards a n) ≡ 0
+pub upwards-none : (s a n : ℕ) → ((i : ℕ) → i < n → s ≢ a + i) → countIn s (upwards a n) ≡ 0
 unfolding upwards countIn
 upwards-none s a zero h = refl
 upwards-none s a (suc n) h =
     let d = h 0 (omega arith) in omega (arith, one-other s a (omega arith), upwards-none s (suc a) n (λ i l. omega (arith, h (suc i) (omega arith))))
 
-upwards-once : (s a n : ℕ) → a ≤ s → s < a + n → countIn s (upwards a n) ≡ 1
+pub upwards-once : (s a n : ℕ) → a ≤ s → s < a + n → countIn s (upwards a n) ≡ 1
 unfolding upwards countIn
 upwards-once s a zero h i = absurd (omega arith)
 upwards-once s a (suc n) h i = same-or-not s a

@@ -9,13 +9,14 @@ const MOST_COMMANDS: usize = 256;
 const ANSWER_WORDS: usize = 2;
 
 /// A number and the place after it.
-struct Number {
-    value: u32,
-    next: usize,
+pub struct Number {
+    pub value: u32,
+    pub next: usize,
 }
 
 /// "seven-bit groups, lowest first, top bit set when more follow. Only the shortest form, at most 4,294,967,295."
-fn number(bytes: &[u8], from: usize) -> Option<Number> {
+#[inline]
+pub fn number(bytes: &[u8], from: usize) -> Option<Number> {
     let mut value = 0u64;
     let mut next = from;
     loop {
@@ -79,7 +80,7 @@ fn run(pool: &mut [u32], c: &Command) -> Answer {
     }
 }
 
-fn refused(code: u32, number: usize) -> u64 {
+pub fn refused(code: u32, number: usize) -> u64 {
     u64::from(code) << 32 | number as u64 & 0xFFFF_FFFF
 }
 

@@ -23,8 +23,8 @@ unsafe fn lent_mut<'a, T>(pointer: *mut T, len: usize) -> &'a mut [T] {
 }
 
 #[no_mangle]
-pub extern "C" fn chromatic_interface_1() -> u32 {
-    1
+pub extern "C" fn chromatic_interface_2() -> u32 {
+    2
 }
 
 /// # Safety
@@ -60,4 +60,18 @@ pub unsafe extern "C" fn chromatic_batch(
     answers_len: usize,
 ) -> u64 {
     unsafe { crate::batch(lent_mut(pool, pool_len), lent(batch, batch_len), lent_mut(answers, answers_len)) }
+}
+
+/// # Safety
+/// As `lent` of the pool, `lent_mut` of the output; they do not overlap.
+#[no_mangle]
+pub unsafe extern "C" fn chromatic_save(pool: *const u32, pool_len: usize, out: *mut u8, out_len: usize) -> u64 {
+    unsafe { crate::save(lent(pool, pool_len), lent_mut(out, out_len)) }
+}
+
+/// # Safety
+/// As `lent_mut` of the pool, `lent` of the saved bytes; they do not overlap.
+#[no_mangle]
+pub unsafe extern "C" fn chromatic_load(pool: *mut u32, pool_len: usize, saved: *const u8, saved_len: usize) -> u64 {
+    unsafe { crate::load(lent_mut(pool, pool_len), lent(saved, saved_len)) }
 }

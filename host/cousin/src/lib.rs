@@ -9,15 +9,17 @@ mod batch;
 mod exports;
 mod pool;
 mod report;
+mod saved;
 mod steps;
 mod updates;
 
 pub use batch::batch;
 pub use pool::{audit, prepare};
 pub use report::report;
+pub use saved::{load, save};
 pub use steps::first_allowed;
 
-/// The codes of document 01, each once.
+/// The codes of documents 01 and 02, each once.
 pub mod code {
     pub const GOOD: u32 = 0;
     pub const WRONG_LENGTH: u32 = 1;
@@ -32,4 +34,6 @@ pub mod code {
     pub const CONDITION_FALSE: u32 = 10;
     pub const TOO_TALL: u32 = 11;
     pub const BUDGET_SPENT: u32 = 12;
+    pub const NEVER_WRITTEN: u32 = 13;
+    pub const OTHER_SIZE: u32 = 14;
 }

@@ -96,12 +96,23 @@ pub fn prepare(pool: &mut [u32]) -> u32 {
     let Some(c) = slots(pool.len()) else {
         return code::WRONG_LENGTH;
     };
-    pool[..WORDS].copy_from_slice(&[0, 1, 0, 0]);
-    for slot in 1..=c {
+    free_from(pool, 1, c);
+    set_header(pool, 0, 0, c);
+    code::GOOD
+}
+
+/// Header of a tree in slots 1 to `nodes`, the rest of the C slots free.
+pub fn set_header(pool: &mut [u32], root: u32, nodes: u32, c: u32) {
+    let first_free = if nodes < c { nodes + 1 } else { 0 };
+    pool[..WORDS].copy_from_slice(&[root, first_free, nodes, 0]);
+}
+
+/// Makes the slots from `first` on free, chained upwards.
+pub fn free_from(pool: &mut [u32], first: u32, c: u32) {
+    for slot in first..=c {
         let next = if slot < c { slot + 1 } else { 0 };
         write(pool, slot, free_slot(next));
     }
-    code::GOOD
 }
 
 /// "Taking a slot takes the chain's head". Some slot must be free.

@@ -225,8 +225,109 @@ fn slots_hold_so_many_keys() -> Result<(), Refused> {
 fn words_for_refuses_other_counts() {
     for slots in [0, 1024, usize::MAX / 4, usize::MAX] {
         assert!(std::panic::catch_unwind(|| Pool::words_for(slots)).is_err(), "{slots} slots");
+        assert!(std::panic::catch_unwind(|| Pool::saved_bytes_for(slots)).is_err(), "{slots} slots");
     }
     assert_eq!([1, 1023].map(Pool::words_for), [8, 4096]);
+    assert_eq!([1, 1023].map(Pool::saved_bytes_for), [11, 7165]);
+}
+
+/// A pool of 9 slots with 01's P1 in it, and its saved form worked by hand: C, N, then each node from the root.
+fn p1() -> (Pool<Vec<u32>>, Vec<u8>) {
+    let mut pool = Pool::prepare(vec![77; Pool::words_for(9)]).unwrap();
+    [10, 20, 30, 40].into_iter().for_each(|key| drop(mark(pool.insert(key).unwrap())));
+    let nodes = [[3, 10], [2, 10], [1, 20], [2, 20], [1, 30], [2, 30], [2, 40]];
+    (pool, [&[9, 7][..], nodes.as_flattened()].concat())
+}
+
+/// What is saved is loaded, into words that may hold anything, and its next save writes the same bytes.
+#[test]
+fn a_set_is_saved_and_loaded() -> Result<(), Refused> {
+    let (pool, bytes) = p1();
+    let before = pool.words().to_vec();
+    let mut out = [9; Pool::saved_bytes_for(9)];
+    assert_eq!(pool.save(&mut out)?, bytes);
+    assert_eq!((pool.most_saved_bytes()?, out.len()), (53, 67));
+    assert_eq!(out[..bytes.len()], bytes);
+    assert!(out[bytes.len()..].iter().all(|&byte| byte == 9));
+    assert_eq!(pool.words(), before);
+
+    for old in [0, 77, u32::MAX] {
+        let mut again = Pool::load(vec![old; Pool::words_for(9)], &bytes)?;
+        assert_eq!((again.slots(), again.keys()?, again.report()?), (9, 4, pool.report()?));
+        assert_eq!(again.save(&mut vec![9; bytes.len()])?, bytes);
+        assert!(present(again.insert(40)?));
+        assert_eq!(newly(again.insert(50)?), (50, 9));
+        assert!(no_room(again.insert(60)?));
+        again.audit()?;
+    }
+    Ok(())
+}
+
+/// The causes in their order, and what a refusal leaves: every byte and every word.
+#[test]
+fn refused_saves_and_loads() {
+    let (pool, bytes) = p1();
+    let mut out = vec![9; bytes.len() - 1];
+    assert_eq!(pool.save(&mut out), Err(Refused::NoFit));
+    assert_eq!(pool.save(&mut []), Err(Refused::NoFit));
+    assert!(out.iter().all(|&byte| byte == 9));
+
+    let loaded = |words: usize, saved: &[u8]| {
+        let mut words = vec![5; words];
+        let refused = Pool::load(&mut words[..], saved).map(drop);
+        assert!(refused.is_ok() || words.iter().all(|&word| word == 5), "{refused:?}");
+        refused
+    };
+    let [nine, eight] = [9, 8].map(Pool::words_for);
+    assert_eq!(loaded(nine, &bytes), Ok(()));
+    assert_eq!(loaded(nine - 1, &bytes[1..]), Err(Refused::WrongLength));
+    assert_eq!(loaded(eight, &bytes[1..]), Err(Refused::BadSaved));
+    assert_eq!(loaded(eight, &bytes), Err(Refused::NoFit));
+    assert_eq!(loaded(nine, &[]), Err(Refused::BadSaved));
+    for cut in 0..bytes.len() {
+        assert_eq!(loaded(nine, &bytes[..cut]), Err(Refused::BadSaved), "{cut} bytes");
+    }
+    assert_eq!(loaded(nine, &[&bytes[..], &[0]].concat()), Err(Refused::BadSaved));
+}
+
+/// Code times 4,294,967,296 plus number.
+#[test]
+fn raw_saves_and_loads() {
+    let (pool, bytes) = p1();
+    let mut words = vec![77; Pool::words_for(9)];
+    let mut out = [9; Pool::saved_bytes_for(9)];
+    assert_eq!(raw::save(pool.words(), &mut out), bytes.len() as u64);
+    assert_eq!(raw::load(&mut words, &bytes), 7);
+    assert_eq!([raw::save(&words[1..], &mut out), raw::load(&mut words[1..], &bytes)], [1 << 32; 2]);
+    assert_eq!(raw::load(&mut words, &bytes[1..]), 13 << 32);
+    assert_eq!([raw::save(&words, &mut out[..5]), raw::load(&mut words[4..], &bytes)], [14 << 32; 2]);
+    words[3] = 1;
+    assert_eq!(raw::save(&words, &mut out), 2 << 32);
+}
+
+/// The largest saved set: every number as long as it can be.
+#[test]
+fn the_longest_saved_set() -> Result<(), Refused> {
+    let keys: Vec<u32> = (u32::MAX - 511..=u32::MAX).collect();
+    let words = grown(&mut Rng::seeded("a large saved set", 9200), 1023, &keys, 255, Shape::Halves, Weights::Red).words();
+    let pool = Pool::resume(words)?;
+    let mut out = [0; Pool::saved_bytes_for(Pool::MOST_SLOTS)];
+    assert_eq!(pool.most_saved_bytes()?, out.len());
+    let saved = pool.save(&mut out)?;
+    assert_eq!(saved.len(), 4 + 512 * 7 + 511 * 6, "leaves of weight 255 take seven bytes, inner nodes of weight 0 or 1 six");
+    let again = Pool::load(vec![0; Pool::words_for(Pool::MOST_SLOTS)], saved)?;
+    assert_eq!(again.report(), pool.report());
+    Ok(())
+}
+
+/// With the feature `std`: just the bytes.
+#[cfg(feature = "std")]
+#[test]
+fn a_set_is_saved_to_a_vec() -> Result<(), Refused> {
+    let (pool, bytes) = p1();
+    assert_eq!(pool.save_to_vec()?, bytes);
+    assert_eq!(Pool::prepare(vec![0; Pool::words_for(1023)])?.save_to_vec()?, [0xFF, 0x07, 0]);
+    Ok(())
 }
 
 /// A send that failed: the key can be marked anew, and its slots are free.
@@ -322,6 +423,9 @@ fn a_damaged_pool_answers_nothing() -> Result<(), Refused> {
     );
     assert!(matches!(pool.insert(1), Err(Refused::RulesBroken)));
     assert!(matches!(pool.run(&Batch::new()), Err(Refused::RulesBroken)));
+    assert_eq!((pool.save(&mut [0; 39]), pool.most_saved_bytes()), (Err(refused), Err(refused)));
+    #[cfg(feature = "std")]
+    assert_eq!(pool.save_to_vec(), Err(refused));
     Ok(())
 }
 
@@ -337,7 +441,7 @@ fn one_figure_is_one_call() -> Result<(), Refused> {
         asked.get()
     };
     assert_eq!(calls(&pool, |pool| assert_eq!(pool.keys(), Ok(0))), 2);
-    [10, 20, 30, 40].map(|key| drop(mark(pool.insert(key).unwrap())));
+    [10, 20, 30, 40].into_iter().for_each(|key| drop(mark(pool.insert(key).unwrap())));
     assert_eq!(calls(&pool, |pool| assert_eq!(pool.keys(), Ok(4))), 1);
     assert_eq!(calls(&pool, |pool| assert_eq!(pool.bound(), Ok(16))), 1);
     assert_eq!(calls(&pool, |pool| assert_eq!(pool.report().unwrap().bound, 16)), 7);
@@ -361,9 +465,11 @@ fn codes_are_numbered() {
     let call = [Refused::WRONG_LENGTH, Refused::RULES_BROKEN, Refused::BAD_COMMAND, Refused::FEW_ANSWERS];
     let update = [Inserted::KEY_PRESENT, Searched::KEY_ABSENT, Inserted::NO_ROOM];
     let step = [Stepped::NO_INNER_NODE, Stepped::NO_KIND, Stepped::CONDITION_FALSE, Stepped::TOO_TALL];
-    assert!([&call[..], &update, &step, &[Settled::BUDGET_SPENT]].concat().into_iter().eq(1..=12));
+    let saved = [Refused::BAD_SAVED, Refused::NO_FIT];
+    assert!([&call[..], &update, &step, &[Settled::BUDGET_SPENT], &saved].concat().into_iter().eq(1..=14));
     let refused = [Refused::WrongLength, Refused::RulesBroken, Refused::BadCommand { byte: 40 }, Refused::FewAnswers];
     assert_eq!(refused.map(|r| (r.code(), r.number())), [(1, 0), (2, 0), (3, 40), (4, 0)]);
+    assert_eq!([Refused::BadSaved, Refused::NoFit].map(|r| (r.code(), r.number())), [(13, 0), (14, 0)]);
 }
 
 #[test]
@@ -407,6 +513,16 @@ fn errors_are_errors() {
          the 257th; a Batch writes none like it"
     );
     assert_eq!(Refused::FewAnswers.to_string(), "refused with code 4: there are fewer than two answer words per command; lend more");
+    assert_eq!(
+        Refused::BadSaved.to_string(),
+        "refused with code 13: these bytes are no saved set; which texts went is not known: send none, do not begin empty, put back the \
+         bytes of the last save"
+    );
+    assert_eq!(
+        Refused::NoFit.to_string(),
+        "refused with code 14: it does not fit; to save, lend more room (Pool::saved_bytes_for gives enough); to load, lend words for as \
+         many slots as were saved"
+    );
 }
 
 #[test]

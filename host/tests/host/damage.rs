@@ -6,7 +6,7 @@ use crate::rng::Rng;
 use crate::twin::{Command, Set};
 
 /// Pools small enough to try every word of.
-fn patients(rng: &mut Rng) -> Vec<Set> {
+pub fn patients(rng: &mut Rng) -> Vec<Set> {
     let mut sets = vec![Set::prepared(1), Set::prepared(2), Set::prepared(3)];
     let mut worked = Pair::prepared(9);
     worked.insert_all(&[10]);

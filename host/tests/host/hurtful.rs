@@ -1,9 +1,12 @@
-//! Pools made to hurt: shared subtrees, cycles, deep chains. The audit stays linear and the stack small.
+//! Pools made to hurt: shared subtrees, cycles, deep chains; and saved bytes made so. The audit, save and load stay linear
+//! and the stack small.
 
-use crate::pair::{library_batch, same_on};
+use crate::pair::{library_batch, library_load, library_save, same_on};
 use crate::pools::{deepest, Shape};
-use crate::twin::{Command, MOST_SLOTS};
+use crate::rng::Rng;
+use crate::twin::{self, write_number, Command, MOST_SLOTS};
 use chromatic::raw;
+use std::hint::black_box;
 use std::sync::mpsc::channel;
 use std::thread;
 use std::time::{Duration, Instant};
@@ -76,8 +79,17 @@ fn call_all(words: &[u32]) -> u32 {
     let figures: u64 = (1..=7).map(|index| raw::report(&pool, index)).sum();
     assert!(code == 0 || figures == 0);
     assert_eq!(library_batch(&mut pool, &every_operation(), &mut [0; 10]), (code, 0));
+    let mut out = vec![0; LONGEST_FORM];
+    let (saved, count) = library_save(words, &mut out);
+    assert_eq!(saved, code);
+    if code == 0 {
+        assert_eq!(library_load(&mut pool, &out[..count as usize]), (0, words[2]));
+    }
     code
 }
+
+/// No form has more bytes: two numbers of two bytes, and seven for each node.
+const LONGEST_FORM: usize = 4 + 7 * MOST_SLOTS;
 
 fn every_operation() -> Vec<u8> {
     let far = MOST_SLOTS as u32 / 2;
@@ -104,42 +116,131 @@ fn the_deepest_sound_pools_fit_a_small_stack() {
     }
 }
 
-/// The least time of many audits.
-fn audit_time(words: &[u32]) -> Duration {
+/// Numbers without end, in seven-bit groups, after these bytes; cut after `len` bytes.
+fn endless(beginning: &[u8], numbers: impl Iterator<Item = u32>, len: usize) -> Vec<u8> {
+    let mut bytes = beginning.to_vec();
+    numbers.take(len).for_each(|n| write_number(n, 0, &mut bytes));
+    bytes.truncate(len);
+    bytes
+}
+
+/// Inner nodes, each the left child of the one before. Routers leave room on that side, so that order stops no walk early.
+fn inner_nodes() -> impl Iterator<Item = u32> {
+    (0..).flat_map(|i| [if i == 0 { 3 } else { 1 }, (1 << 28) - i])
+}
+
+/// Bytes that no writer produces, by name, `len` of them.
+fn hurtful_bytes(len: usize) -> Vec<(&'static str, Vec<u8>)> {
+    let full = [0xFF, 0x07, 0xFF, 0x07]; // C and N are 1,023
+    let most_nodes = [0xFF, 0x07, 0xFF, 0xFF, 0xFF, 0xFF, 0x0F];
+    let chain_right = || [3, 0].into_iter().chain((0..).flat_map(|i| [2, i, 1, i + 1]));
+    let sound = deepest(MOST_SLOTS, Shape::ChainLeft).saved();
+    let mut rng = Rng::seeded("noise made to hurt", 1);
+    let noise: Vec<u32> = (0..len).map(|_| rng.next() as u32).collect();
+    vec![
+        ("N of 4,294,967,295", endless(&most_nodes, inner_nodes(), len)),
+        ("inner nodes to the left without end", endless(&full, inner_nodes(), len)),
+        ("a chain to the right without end", endless(&full, chain_right(), len)),
+        ("leaves without end", endless(&full, (0..).flat_map(|i| [2, i]), len)),
+        ("a sound form with more after it", endless(&sound, [2, 3].into_iter().cycle(), len.max(sound.len() + 1))),
+        ("a number without end", endless(&[&full[..], &vec![0xFF; len]].concat(), std::iter::empty(), len)),
+        ("padding without end", vec![0x80; len]),
+        ("zeros without end", vec![0; len]),
+        ("noise", noise.iter().map(|&n| n as u8).collect()),
+        ("noise for nodes", endless(&full, noise.into_iter(), len)),
+    ]
+}
+
+#[test]
+fn hurtful_bytes_end_and_are_refused() {
+    for len in [3, 100, 10_000, 1 << 20] {
+        for (name, saved) in hurtful_bytes(len) {
+            let before = vec![7; 4 + 4 * MOST_SLOTS];
+            assert_eq!(twin::load(&mut before.clone(), &saved), (13, 0), "{name}, {len} bytes, by the twin");
+            let mut words = before.clone();
+            let (answer, after) = on_stack(SMALL_STACK, move || (library_load(&mut words, &saved), words));
+            assert!(answer == (13, 0) && after == before, "{name}, {len} bytes: {answer:?}");
+        }
+    }
+}
+
+/// The least time of many calls.
+fn least_time(mut call: impl FnMut()) -> Duration {
     (0..60)
         .map(|_| {
             let begun = Instant::now();
-            std::hint::black_box(raw::audit(std::hint::black_box(words)));
+            call();
             begun.elapsed()
         })
         .min()
         .unwrap()
 }
 
-/// Time against size: eight times the slots take about eight times the time. (A square would take 64 times.) What else the
-/// machine does only adds to a time, so the least is taken, and looked for again while it is too much: what grows like a
-/// square stays above in every round.
+/// Time against size, `call` being told which of the sizes: eight times the size takes about eight times the time. (A square
+/// would take 64 times.) What else the machine does only adds to a time, so the least is taken, and looked for again while
+/// it is too much: what grows like a square stays above in every round.
+fn assert_linear(what: &str, unit: &str, sizes: [usize; 4], mut call: impl FnMut(usize)) {
+    let mut times = [f64::MAX; 4];
+    // 8 for the size, half as much again for the caches, and a microsecond for the clock.
+    let linear = |times: &[f64; 4]| times[3] < 12.0 * times[0] + 1000.0;
+    let mut rounds = 0;
+    while rounds == 0 || rounds < 200 && !linear(&times) {
+        if rounds > 0 {
+            thread::sleep(Duration::from_millis(10));
+        }
+        for (i, time) in times.iter_mut().enumerate() {
+            *time = time.min(least_time(|| call(i)).as_nanos() as f64);
+        }
+        rounds += 1;
+    }
+    println!("measured {what}: {times:.0?} ns for {unit} = {sizes:?}, in {rounds} rounds");
+    assert!(linear(&times), "{what}: {times:?} in {rounds} rounds");
+}
+
+const SIZES: [usize; 4] = [127, 255, 511, MOST_SLOTS];
+
+/// By size, what hurts the audit, and the deepest sound tree.
+fn pools_by_size() -> [Vec<(&'static str, Vec<u32>)>; 4] {
+    let sound = |slots| ("the deepest sound tree", deepest(slots, Shape::ChainRight).words());
+    SIZES.map(|slots| [vec![sound(slots)], tangles(slots)].concat())
+}
+
 #[test]
 fn the_audit_stays_linear() {
-    let sizes = [127, 255, 511, MOST_SLOTS];
-    let sound = |slots| ("the deepest sound tree", deepest(slots, Shape::ChainRight).words());
-    let pools = sizes.map(|slots| [vec![sound(slots)], tangles(slots)].concat());
-    for i in 0..pools[0].len() {
-        let mut times = [f64::MAX; 4];
-        // 8 for the slots, half as much again for the caches, and a microsecond for the clock.
-        let linear = |times: &[f64; 4]| times[3] < 12.0 * times[0] + 1000.0;
-        let mut rounds = 0;
-        while rounds == 0 || rounds < 200 && !linear(&times) {
-            if rounds > 0 {
-                thread::sleep(Duration::from_millis(10));
-            }
-            for (time, of_size) in times.iter_mut().zip(&pools) {
-                *time = time.min(audit_time(&of_size[i].1).as_nanos() as f64);
-            }
-            rounds += 1;
-        }
-        println!("measured audit of {}: {times:.0?} ns for C = {sizes:?}, in {rounds} rounds", pools[0][i].0);
-        assert!(linear(&times), "{}: {times:?} in {rounds} rounds", pools[0][i].0);
+    let pools = pools_by_size();
+    for (i, (name, _)) in pools[0].iter().enumerate() {
+        assert_linear(&format!("audit of {name}"), "C", SIZES, |size| {
+            black_box(raw::audit(black_box(&pools[size][i].1)));
+        });
+    }
+}
+
+#[test]
+fn save_stays_linear() {
+    let pools = pools_by_size();
+    let mut out = vec![0; LONGEST_FORM];
+    for (i, (name, _)) in pools[0].iter().enumerate() {
+        assert_linear(&format!("save of {name}"), "C", SIZES, |size| {
+            black_box(raw::save(black_box(&pools[size][i].1), &mut out));
+        });
+    }
+}
+
+#[test]
+fn load_stays_linear() {
+    let mut words = SIZES.map(|slots| vec![7; 4 + 4 * slots]);
+    for shape in [Shape::ChainRight, Shape::ChainLeft, Shape::Halves] {
+        let forms = SIZES.map(|slots| deepest(slots, shape).saved());
+        assert_linear(&format!("load of {shape:?}"), "C", SIZES, |size| {
+            assert_eq!(library_load(&mut words[size], black_box(&forms[size])).0, 0);
+        });
+    }
+    let lengths = [1 << 17, 1 << 18, 1 << 19, 1 << 20];
+    let forms = lengths.map(hurtful_bytes);
+    for (i, (name, _)) in forms[0].iter().enumerate() {
+        assert_linear(&format!("load of {name}"), "bytes", lengths, |size| {
+            assert_eq!(library_load(&mut words[3], black_box(&forms[size][i].1)).0, 13);
+        });
     }
 }
 
@@ -172,25 +273,50 @@ fn stack_used(f: impl Fn() + Send + 'static) -> usize {
 const LEVELS_LATER: usize = 8192;
 const STACK_LATER: usize = 2 * 1024 * 1024;
 
+/// What a level may take in save and load.
+const SAVED_LEVEL: f64 = 200.0;
+/// What it may take elsewhere.
+const LEVEL: f64 = (STACK_LATER / LEVELS_LATER) as f64;
+
 #[test]
 fn bytes_of_stack_for_each_level() {
     let smaller = MOST_SLOTS / 2;
     let levels = (MOST_SLOTS.div_ceil(2) - smaller.div_ceil(2)) as f64;
-    type Call = fn(&[u32]);
-    let calls: [(&str, Call); 4] = [
-        ("audit", |words| assert_eq!(raw::audit(words), 0)),
-        ("report", |words| assert_ne!(raw::report(words, 7), 0)),
-        ("batch", |words| assert_eq!(library_batch(&mut words.to_vec(), &every_operation(), &mut [0; 10]), (0, 0))),
-        ("audit of a damaged pool", |words| {
-            let (_, tangled) = tangles(words.len() / 4 - 1).swap_remove(0);
-            assert_eq!(raw::audit(&tangled), 2);
+    /// The call for so many slots, all that it needs made before.
+    type Call = fn(usize) -> Box<dyn Fn() + Send>;
+    let calls: [(&str, f64, Call); 7] = [
+        ("audit", LEVEL, |slots| {
+            let words = deepest(slots, Shape::Zigzag).words();
+            Box::new(move || assert_eq!(raw::audit(&words), 0))
+        }),
+        ("report", LEVEL, |slots| {
+            let words = deepest(slots, Shape::Zigzag).words();
+            Box::new(move || assert_ne!(raw::report(&words, 7), 0))
+        }),
+        ("batch", LEVEL, |slots| {
+            let words = deepest(slots, Shape::Zigzag).words();
+            Box::new(move || assert_eq!(library_batch(&mut words.to_vec(), &every_operation(), &mut [0; 10]), (0, 0)))
+        }),
+        ("save", SAVED_LEVEL, |slots| {
+            let words = deepest(slots, Shape::Zigzag).words();
+            Box::new(move || assert_eq!(library_save(&words, &mut vec![0; LONGEST_FORM]).0, 0))
+        }),
+        ("load", SAVED_LEVEL, |slots| {
+            let saved = deepest(slots, Shape::Zigzag).saved();
+            Box::new(move || assert_eq!(library_load(&mut vec![7; 4 + 4 * slots], &saved).0, 0))
+        }),
+        ("audit of a damaged pool", LEVEL, |slots| {
+            let (_, tangled) = tangles(slots).swap_remove(0);
+            Box::new(move || assert_eq!(raw::audit(&tangled), 2))
+        }),
+        ("load of damaged bytes", SAVED_LEVEL, |slots| {
+            let mut saved = vec![];
+            [slots as u32, slots as u32].into_iter().chain(inner_nodes().take(2 * slots)).for_each(|n| write_number(n, 0, &mut saved));
+            Box::new(move || assert_eq!(library_load(&mut vec![7; 4 + 4 * slots], &saved).0, 13))
         }),
     ];
-    for (name, call) in calls {
-        let used = [smaller, MOST_SLOTS].map(|slots| {
-            let words = deepest(slots, Shape::Zigzag).words();
-            stack_used(move || call(&words))
-        });
+    for (name, most, call) in calls {
+        let used = [smaller, MOST_SLOTS].map(|slots| stack_used(call(slots)));
         let per_level = (used[1].saturating_sub(used[0])) as f64 / levels;
         let later = used[1] + (per_level * (LEVELS_LATER - MOST_SLOTS.div_ceil(2)) as f64) as usize;
         println!(
@@ -199,6 +325,6 @@ fn bytes_of_stack_for_each_level() {
             later / 1024,
             STACK_LATER / 1024
         );
-        assert!(used[1] < SMALL_STACK && later < STACK_LATER, "{name}");
+        assert!(used[1] < SMALL_STACK && later < STACK_LATER && per_level <= most, "{name}");
     }
 }

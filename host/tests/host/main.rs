@@ -1,14 +1,16 @@
 //! Tests of the library behind the crate `chromatic`. They know it by its functions only, and compare it with the
-//! twin (twin/), which is document 01 written again.
+//! twin (twin/), which is document 01, with 02's requests so far, written again.
 //!
 //! Lines that begin with "seed", "compared" or "measured" are for host/test to show.
 
 mod api;
+mod causes;
 mod damage;
 mod hurtful;
 mod pair;
 mod pools;
 mod random;
 mod rng;
+mod saved;
 mod twin;
 mod worked;

@@ -6,32 +6,56 @@ use chromatic::raw;
 /// What answer words hold before a call.
 pub const UNTOUCHED: u32 = 0xA5A5_0000;
 
-/// Words lent from the middle of others, which a call must leave alone.
-pub struct Lent(Vec<u32>);
+/// Words or bytes lent from the middle of others, which a call must leave alone.
+pub struct Lent<T = u32>(Vec<T>);
 
-const BESIDE: [u32; 8] = [0x0DD_BA11; 8];
+/// What lies on either side of what is lent.
+pub trait Beside: Copy + PartialEq + 'static {
+    const BESIDE: [Self; 8];
+}
 
-impl Lent {
-    pub fn of(words: &[u32]) -> Lent {
-        Lent([&BESIDE, words, &BESIDE].concat())
+impl Beside for u32 {
+    const BESIDE: [u32; 8] = [0x0DD_BA11; 8];
+}
+
+impl Beside for u8 {
+    const BESIDE: [u8; 8] = [0xBE; 8];
+}
+
+impl<T: Beside> Lent<T> {
+    pub fn of(words: &[T]) -> Lent<T> {
+        Lent([&T::BESIDE, words, &T::BESIDE].concat())
     }
 
-    pub fn words(&mut self) -> &mut [u32] {
-        let end = self.0.len() - BESIDE.len();
-        &mut self.0[BESIDE.len()..end]
+    pub fn words(&mut self) -> &mut [T] {
+        let end = self.0.len() - T::BESIDE.len();
+        &mut self.0[T::BESIDE.len()..end]
     }
 
     /// The words again.
-    pub fn back(mut self) -> Vec<u32> {
-        assert!(self.0.starts_with(&BESIDE) && self.0.ends_with(&BESIDE), "a call wrote beside what it was lent");
+    pub fn back(mut self) -> Vec<T> {
+        assert!(self.0.starts_with(&T::BESIDE) && self.0.ends_with(&T::BESIDE), "a call wrote beside what it was lent");
         self.words().to_vec()
     }
 }
 
+fn code_and_number(r: u64) -> Answer {
+    ((r >> 32) as u32, r as u32)
+}
+
 /// Code and number of the library's batch call.
 pub fn library_batch(pool: &mut [u32], bytes: &[u8], answers: &mut [u32]) -> Answer {
-    let r = raw::batch(pool, bytes, answers);
-    ((r >> 32) as u32, r as u32)
+    code_and_number(raw::batch(pool, bytes, answers))
+}
+
+/// Code and number of the library's save.
+pub fn library_save(pool: &[u32], out: &mut [u8]) -> Answer {
+    code_and_number(raw::save(pool, out))
+}
+
+/// Code and number of the library's load.
+pub fn library_load(pool: &mut [u32], saved: &[u8]) -> Answer {
+    code_and_number(raw::load(pool, saved))
 }
 
 /// Everything that can be asked of these words without changing them, by both; the audit's code.
@@ -62,6 +86,40 @@ pub fn same_batch(words: &[u32], bytes: &[u8], room: usize) -> Answer {
         assert!(pool == words && answers == untouched, "a refused batch {bytes:02X?} changed words");
     }
     got
+}
+
+/// Save by both, with room for so many bytes; every byte afterwards. What was answered, and the bytes.
+pub fn same_save(words: &[u32], room: usize) -> (Answer, Vec<u8>) {
+    let untouched: Vec<u8> = (0..room).map(|i| (i as u8).wrapping_mul(59) ^ 0xA5).collect();
+    let (mut pool, mut out) = (Lent::of(words), Lent::of(&untouched));
+    let got = library_save(pool.words(), out.words());
+    assert!(pool.back() == words, "a save of {words:?} changed the pool");
+    let out = out.back();
+    let mut twin_out = untouched.clone();
+    let want = twin::save(words, &mut twin_out);
+    assert_eq!(got, want, "save of {words:?} with room for {room} bytes");
+    assert_eq!(out, twin_out, "bytes saved of {words:?}");
+    if got.0 != 0 {
+        assert!(got.1 == 0 && out == untouched, "a refused save of {words:?} wrote, or gave a number");
+    }
+    assert_eq!(out[got.1 as usize..], untouched[got.1 as usize..], "a save of {words:?} wrote past its count");
+    (got, out[..got.1 as usize].to_vec())
+}
+
+/// Load by both into copies of the words; every word afterwards. What was answered, and the words.
+pub fn same_load(words: &[u32], saved: &[u8]) -> (Answer, Vec<u32>) {
+    let (mut pool, mut bytes) = (Lent::of(words), Lent::of(saved));
+    let got = library_load(pool.words(), bytes.words());
+    assert!(bytes.back() == saved, "a load of {saved:02X?} changed the bytes");
+    let pool = pool.back();
+    let mut twin_pool = words.to_vec();
+    let want = twin::load(&mut twin_pool, saved);
+    assert_eq!(got, want, "load of {saved:02X?} into {} words", words.len());
+    assert_eq!(pool, twin_pool, "pool after load of {saved:02X?}");
+    if got.0 != 0 {
+        assert!(got.1 == 0 && pool == words, "a refused load of {saved:02X?} changed words, or gave a number");
+    }
+    (got, pool)
 }
 
 /// How often each answer was seen.

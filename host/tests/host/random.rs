@@ -8,12 +8,12 @@ use std::collections::HashSet;
 use std::time::Instant;
 
 /// How many times the usual work: `host/test soak N` sets it.
-fn soak() -> u64 {
+pub fn soak() -> u64 {
     number_from("HOST_SOAK", 1)
 }
 
 /// A smaller share of the usual work, for host/faults: one part in so many.
-fn share() -> u64 {
+pub fn share() -> u64 {
     number_from("HOST_SHARE", 1)
 }
 

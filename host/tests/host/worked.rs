@@ -1,6 +1,7 @@
-//! The cases that document 01 works by hand, those of DESIGN.md, and further ones for kinds that those leave out.
+//! The cases that document 01 works by hand, those of DESIGN.md, and further ones for kinds that those leave out; the
+//! saved forms of some of them.
 
-use crate::pair::{library_batch, same_batch, Lent, Pair};
+use crate::pair::{library_batch, same_batch, same_load, same_save, Lent, Pair};
 use crate::twin::{self, edge, inner, leaf, Command, Edge, Set};
 use chromatic::raw;
 use Command::{Delete, Insert, Search, Settle, Step};
@@ -325,4 +326,110 @@ fn two_hundred_and_fifty_seven_commands() {
     assert_eq!(same_batch(&words, &[many(256), vec![0x80]].concat(), 600), (3, 512));
     let longest = [4, 0xFF, 0xFF, 0xFF, 0xFF, 0x0F, 0xFF, 0xFF, 0xFF, 0xFF, 0x0F].repeat(256);
     assert_eq!((longest.len(), same_batch(&words, &longest, 512)), (2816, (0, 0)));
+}
+
+/// What the words are saved as, in a room of `room` bytes.
+fn saved(pair: &Pair, room: usize) -> Vec<u8> {
+    let ((code, count), bytes) = same_save(&pair.words, room);
+    assert_eq!((code, count as usize), (0, bytes.len()));
+    bytes
+}
+
+/// Worked by hand: C, N, then weights and keys, a node before what is below it.
+#[rustfmt::skip]
+#[test]
+fn saved_forms() {
+    let p1 = [0x09, 0x07, 0x03, 0x0A, 0x02, 0x0A, 0x01, 0x14, 0x02, 0x14, 0x01, 0x1E, 0x02, 0x1E, 0x02, 0x28];
+    assert_eq!(saved(&after_p1(NINE), 16), p1);
+    assert_eq!(saved(&after_p1(7), 17), [&[0x07][..], &p1[1..]].concat());
+    let p2 = [0x09, 0x07, 0x03, 0x14, 0x01, 0x0A, 0x02, 0x0A, 0x02, 0x14, 0x01, 0x1E, 0x02, 0x1E, 0x02, 0x28];
+    assert_eq!(saved(&after_p2(), 16), p2);
+    let p3 = [0x09, 0x09, 0x03, 0x14, 0x03, 0x0A, 0x02, 0x0A, 0x02, 0x14, 0x03, 0x1E, 0x02, 0x1E, 0x01, 0x28, 0x02, 0x28, 0x02, 0x32];
+    assert_eq!(saved(&after_p3(), 20), p3);
+    let p4 = [0x09, 0x07, 0x03, 0x14, 0x04, 0x14, 0x03, 0x1E, 0x02, 0x1E, 0x01, 0x28, 0x02, 0x28, 0x02, 0x32];
+    assert_eq!(saved(&after_p4(), 100), p4);
+    let p8_255 = [
+        0x09, 0x09, 0x03, 0x03, 0x01, 0x02, 0x01, 0x01, 0xFE, 0x03, 0x01, 0xFE, 0x03, 0x02, 0xFE, 0x03, 0x03,
+        0x01, 0x04, 0xFE, 0x03, 0x04, 0xFE, 0x03, 0x05,
+    ];
+    assert_eq!(saved(&p8(255), 25), p8_255);
+    assert_eq!(saved(&Pair::prepared(1), 2), [0x01, 0x00]);
+    assert_eq!(saved(&Pair::prepared(NINE), 2), [0x09, 0x00]);
+    assert_eq!(saved(&Pair::prepared(1023), 3), [0xFF, 0x07, 0x00]);
+    let mut one = Pair::prepared(1);
+    one.insert_all(&[u32::MAX]);
+    assert_eq!(saved(&one, 8), [0x01, 0x01, 0x02, 0xFF, 0xFF, 0xFF, 0xFF, 0x0F]);
+}
+
+/// P4's slots are 1, 3, 5, 6, 7, 8 and 9 before and 1 to 7 after, and the chain 4, 2 becomes 8, 9.
+#[test]
+fn p4_over_a_restart() {
+    let before = after_p4();
+    assert_eq!((before.slot(1), before.slot(5), before.slot(7)), ([20, 3, 5, 1], [30, 6, 7, 1], [40, 8, 9, 0]));
+    let ((code, n), after) = same_load(&[0xDEAD_BEEF; 40], &saved(&before, 16));
+    assert_eq!((code, n), (0, 7));
+    let slots = [
+        [1, 8, 7, 0],
+        [20, 2, 3, 1],
+        [20, 0, 0, 2],
+        [30, 4, 5, 1],
+        [30, 0, 0, 1],
+        [40, 6, 7, 0],
+        [40, 0, 0, 1],
+        [50, 0, 0, 1],
+        [0, 9, 0, u32::MAX],
+        [0, 0, 0, u32::MAX],
+    ];
+    assert_eq!(after, slots.concat());
+    // A second load into the same words, and the prepared pool where N is 0.
+    assert_eq!(same_load(&after, &saved(&before, 16)).1, after);
+    assert_eq!(same_load(&after, &[0x09, 0x00]), ((0, 0), Pair::prepared(NINE).words));
+}
+
+/// "the writer's order is 1, 2, 14"
+#[test]
+fn order_of_refusals_of_save() {
+    let good = after_p1(NINE).words;
+    let mut broken = good.clone();
+    broken[3] = 1;
+    for (words, room, want) in [
+        (&broken[..39], 0, (1, 0)),
+        (&broken[..39], 16, (1, 0)),
+        (&good[..39], 0, (1, 0)),
+        (&good[..4], 0, (1, 0)),
+        (&[], 0, (1, 0)),
+        (&broken, 0, (2, 0)),
+        (&broken, 16, (2, 0)),
+        (&good, 0, (14, 0)),
+        (&good, 15, (14, 0)),
+        (&good, 16, (0, 16)),
+        (&good, 17, (0, 16)),
+    ] {
+        assert_eq!(same_save(words, room).0, want, "{} words, room for {room}", words.len());
+    }
+}
+
+/// "the reader's 1, 13, 14"
+#[test]
+fn order_of_refusals_of_load() {
+    let p1 = saved(&after_p1(NINE), 16);
+    let nine_with_a_red_root = [0x09, 0x01, 0x00, 0x0A];
+    let two_thousand_slots = [0xD0, 0x0F, 0x00];
+    for (words, bytes, want) in [
+        (39, &nine_with_a_red_root[..], (1, 0)),
+        (39, &p1, (1, 0)),
+        (0, &[], (1, 0)),
+        (4, &p1, (1, 0)),
+        (4100, &p1, (1, 0)),
+        (40, &nine_with_a_red_root, (13, 0)),
+        (44, &nine_with_a_red_root, (13, 0)),
+        (44, &two_thousand_slots, (13, 0)),
+        (40, &[], (13, 0)),
+        (44, &p1, (14, 0)),
+        (36, &p1, (14, 0)),
+        (4096, &p1, (14, 0)),
+        (40, &p1, (0, 7)),
+    ] {
+        assert_eq!(same_load(&vec![7; words], bytes).0, want, "{bytes:02X?} into {words} words");
+    }
 }

@@ -12,4 +12,9 @@ impl Dispatcher {
         Pool::resume(self.words).is_ok() // FAULT
         // MENDED Pool::resume(&mut self.words[..]).is_ok()
     }
+
+    pub fn loaded(&mut self, saved: &[u8]) -> bool {
+        Pool::load(self.words, saved).is_ok() // FAULT
+        // MENDED Pool::load(&mut self.words[..], saved).is_ok()
+    }
 }

@@ -3,11 +3,13 @@
 #![deny(warnings)]
 use chromatic::raw;
 
-pub fn tell(pool: &mut [u32], bytes: &[u8], answers: &mut [u32]) -> u64 {
+pub fn tell(pool: &mut [u32], bytes: &[u8], answers: &mut [u32], out: &mut [u8]) -> u64 {
     raw::prepare(pool); // FAULT
     raw::audit(pool); // FAULT
     raw::report(pool, 7); // FAULT
     raw::batch(pool, bytes, answers); // FAULT
+    raw::save(pool, out); // FAULT
+    raw::load(pool, bytes); // FAULT
     raw::interface(); // FAULT
-    raw::batch(pool, bytes, answers)
+    raw::save(pool, out) + raw::batch(pool, bytes, answers)
 }

@@ -5,7 +5,7 @@ use chromatic::{Answer, Command, Deleted, Refused, Searched, Settled, Stepped};
 
 pub fn refusal(refused: Refused) -> u32 {
     match refused {
-        Refused::WrongLength | Refused::RulesBroken | Refused::FewAnswers => 0,
+        Refused::WrongLength | Refused::RulesBroken | Refused::FewAnswers | Refused::BadSaved | Refused::NoFit => 0,
         Refused::BadCommand { byte } => byte,
         // MENDED _ => 0,
     }

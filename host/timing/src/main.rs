@@ -4,7 +4,7 @@
 mod sets;
 
 use chromatic::{Command, Kind};
-use sets::{all, Set, Work};
+use sets::{all, pools, Set, Work};
 use std::hint::black_box;
 use std::time::{Duration, Instant};
 
@@ -113,7 +113,7 @@ fn race(sets: &mut [Box<dyn Set>], home: &Work, race: Race) {
 }
 
 /// What only pools have, in nanoseconds a call.
-fn race_pools(what: &str, sets: &mut [Box<dyn Set>], call: fn(&dyn Set) -> u64) {
+fn race_pools(what: &str, sets: &mut [Box<dyn Set>], call: fn(&mut dyn Set) -> u64) {
     let mut pools: Vec<_> = sets.iter_mut().filter(|set| set.pooled().is_some()).map(|set| (set, vec![])).collect();
     for _ in 0..SPELLS {
         pools.iter_mut().for_each(|(set, samples)| spell(samples, || clocked(set.as_mut(), |set| call(set))));
@@ -205,6 +205,24 @@ fn table(count: usize) {
     }
     race_pools("audit, a call", &mut sets, |set| set.pooled().map_or(0, |p| u64::from((p.audit)(black_box(&p.words)))));
     race_pools("report's seventh number, a call", &mut sets, |set| set.pooled().map_or(0, |p| (p.report)(black_box(&p.words), 7)));
+    saved_rows(&keys);
+}
+
+/// Save and load, of as many keys as the table has, each key and router five bytes long.
+fn saved_rows(keys: &[u32]) {
+    let longest: Vec<u32> = keys.iter().map(|&key| key | 1 << 28).collect();
+    let mut sets = pools(SLOTS);
+    let (fill, settle) = (Work::new(each(&longest, insert), 256), Work::new(vec![Command::Settle { budget: u32::MAX }], 1));
+    for set in sets.iter_mut() {
+        assert_eq!(set.run(&fill), keys.len() as u64, "{}", set.name());
+        set.run(&settle);
+    }
+    let bytes: Vec<u64> = sets.iter_mut().map(|set| set.save()).collect();
+    race_pools(&format!("save, a call, {} bytes", bytes[0]), &mut sets, |set| set.save());
+    race_pools(&format!("load, a call, {} bytes", bytes[0]), &mut sets, |set| set.load());
+    let nodes: Vec<u64> = sets.iter_mut().map(|set| set.load()).collect();
+    let all = 2 * keys.len() as u64 - 1;
+    assert!(bytes == [bytes[0]; 2] && nodes == [all; 2], "the contestants do not agree: {bytes:?}, {nodes:?}");
 }
 
 fn main() {

@@ -2,6 +2,7 @@
 
 use chromatic::{Batch, Command};
 use std::collections::BTreeSet;
+use std::hint::black_box;
 
 /// Commands, as every contestant wants them.
 pub struct Work {
@@ -64,6 +65,14 @@ pub trait Set {
     fn pooled(&self) -> Option<&Pooled> {
         None
     }
+    /// Saves the set as bytes; gives what the call does. Of a pool only.
+    fn save(&mut self) -> u64 {
+        unreachable!("{} is not saved", self.name())
+    }
+    /// Loads the bytes that were saved last.
+    fn load(&mut self) -> u64 {
+        unreachable!("{} is not loaded", self.name())
+    }
 }
 
 /// A pool and the functions that work on it: the library's or the cousin's.
@@ -74,6 +83,11 @@ pub struct Pooled {
     pub audit: fn(&[u32]) -> u32,
     pub report: fn(&[u32], u32) -> u64,
     batch: fn(&mut [u32], &[u8], &mut [u32]) -> u64,
+    save: fn(&[u32], &mut [u8]) -> u64,
+    load: fn(&mut [u32], &[u8]) -> u64,
+    /// Room for any form, and the bytes saved last at its beginning.
+    room: Vec<u8>,
+    saved: usize,
 }
 
 impl Pooled {
@@ -84,15 +98,17 @@ impl Pooled {
     }
 
     pub fn library(slots: usize) -> Pooled {
-        use chromatic::raw::{audit, batch, prepare, report};
+        use chromatic::raw::{audit, batch, load, prepare, report, save};
         let name = "library";
-        Pooled { name, words: Pooled::prepared(name, slots, prepare), kept: vec![], audit, report, batch }
+        let words = Pooled::prepared(name, slots, prepare);
+        Pooled { name, words, kept: vec![], audit, report, batch, save, load, room: vec![0; 4 + 7 * slots], saved: 0 }
     }
 
     pub fn cousin(slots: usize) -> Pooled {
-        use cousin::{audit, batch, prepare, report};
+        use cousin::{audit, batch, load, prepare, report, save};
         let name = "cousin";
-        Pooled { name, words: Pooled::prepared(name, slots, prepare), kept: vec![], audit, report, batch }
+        let words = Pooled::prepared(name, slots, prepare);
+        Pooled { name, words, kept: vec![], audit, report, batch, save, load, room: vec![0; 4 + 7 * slots], saved: 0 }
     }
 }
 
@@ -121,6 +137,16 @@ impl Set for Pooled {
 
     fn pooled(&self) -> Option<&Pooled> {
         Some(self)
+    }
+
+    fn save(&mut self) -> u64 {
+        let count = (self.save)(black_box(&self.words), &mut self.room);
+        self.saved = count as usize;
+        count
+    }
+
+    fn load(&mut self) -> u64 {
+        (self.load)(&mut self.words, black_box(&self.room[..self.saved]))
     }
 }
 
@@ -192,10 +218,15 @@ mod cpp {
     }
 }
 
-/// All contestants, empty, the library first and its cousin second.
+/// Both pools, empty, the library first and its cousin second.
+pub fn pools(slots: usize) -> Vec<Box<dyn Set>> {
+    vec![Box::new(Pooled::library(slots)), Box::new(Pooled::cousin(slots))]
+}
+
+/// All contestants, empty, the pools first.
 pub fn all(slots: usize) -> Vec<Box<dyn Set>> {
-    #[allow(unused_mut)]
-    let mut sets: Vec<Box<dyn Set>> = vec![Box::new(Pooled::library(slots)), Box::new(Pooled::cousin(slots)), Box::new(BTreeSet::new())];
+    let mut sets = pools(slots);
+    sets.push(Box::new(BTreeSet::new()));
     #[cfg(feature = "cpp")]
     sets.extend(cpp::sets(slots));
     sets

@@ -12,7 +12,7 @@ pub enum Command {
 const MOST_COMMANDS: usize = 256;
 
 /// The number at the beginning and the bytes after it. "Only the shortest form, at most 4,294,967,295."
-fn number(bytes: &[u8]) -> Option<(u32, &[u8])> {
+pub(super) fn number(bytes: &[u8]) -> Option<(u32, &[u8])> {
     let last = bytes.iter().position(|b| b & 0x80 == 0)?;
     let (groups, rest) = bytes.split_at(last + 1);
     let longer_than_needed = last > 0 && groups[last] == 0;

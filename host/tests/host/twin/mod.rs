@@ -1,13 +1,15 @@
-//! The twin: all of document 01 once more, written from that document alone and working differently. The set is an
-//! explicit tree whose edges own what is below them; words are read once and written once.
+//! The twin: all of document 01 and 02's requests so far once more, written from those documents alone and working
+//! differently. The set is an explicit tree whose edges own what is below them; words are read once and written once.
 
 mod audit;
 mod bytes;
 mod figures;
+mod saved;
 mod steps;
 
 pub use audit::{audit, read};
 pub use bytes::{commands, write_number, Command};
+pub use saved::{load, save};
 
 /// "Slots are numbered from 1", "C from 1 to 1,023".
 pub const MOST_SLOTS: usize = 1023;

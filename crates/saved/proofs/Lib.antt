@@ -1,0 +1,11 @@
+pub mod ReadLists
+pub mod Alike
+pub mod Grown
+pub mod Tests
+pub mod States
+pub mod Lengths
+pub mod There
+pub mod Saves
+pub mod Figures
+pub mod Worked
+pub mod Restarts

@@ -1,0 +1,49 @@
+-- 02 (i), the two calls (RULES 16) and their codes (RULES 9.13 and 9.14): what each answers and leaves, for any words and bytes, with the
+-- refusals in their order.
+use mathlib.Core.Bool.{true, false}
+use mathlib.Core.List.{List, _++_}
+use mathlib.Core.Option.{Option, none, some}
+use lib.Dec.{eqb, leb}
+use lib.ListN.{length, drop}
+use Prim.Native.Nat.{ℕ}
+use Rattle.tree.specs.declared.Refusal.{Refusal}
+use Rattle.tree.specs.declared.Refusal.the-variants.{PoolLength, RulesBroken, BadSaved, NoFit}
+use Rattle.tree.specs.declared.Answer.{Answer}
+use Rattle.tree.specs.declared.Answer.the-variants.{Done, Refused}
+use Rattle.tree.specs.State.{State, nodes}
+use Rattle.format.specs.Words.{lengthGood, slotsIn, wordsOf}
+use Rattle.format.specs.Audit.{rulesHold, stateOf}
+use Rattle.saved.specs.Saved.{savedBytes}
+use Rattle.saved.specs.Loaded.{loaded}
+
+-- a call's answer, and what it leaves of the bytes or words that it may write
+pub record Call : Type 0 where
+  pub answer : Answer
+  pub left : List ℕ
+
+abbrev pub gives : Answer → List ℕ → Call
+gives a lent = record { answer = a; left = lent }
+
+-- RULES 16.4 and 16.5: "each with number 0; nothing is written on any of them" (the number beside a refusal is tree's `numberOf`)
+abbrev pub refuses : Refusal → List ℕ → Call
+refuses f lent = gives (Refused f) lent
+
+-- RULES 16.4: "The writer answers 0 and the byte count [..]; output bytes past the count stay." 14 is "for too little output room".
+unfoldable pub saveInto : List ℕ → List ℕ → Call
+saveInto bytes out = elim (leb (length bytes) (length out)) [ true ↦ gives (Done (length bytes)) (bytes ++ drop (length bytes) out) | false ↦ refuses NoFit out ]
+
+-- "the writer's order is 1, 2, 14"; "The writer takes any pool that passes the audit."
+unfoldable pub saveCall : List ℕ → List ℕ → Call
+saveCall p out = elim (lengthGood p) [
+  | false ↦ refuses PoolLength out
+  | true ↦ elim (rulesHold p) [ false ↦ refuses RulesBroken out | true ↦ saveInto (savedBytes (stateOf p)) out ]
+]
+
+-- RULES 16.5: "the reader [answers] 0 and N"; its order is "1, 13, 14", and 14 is for "a pool whose C differs from the saved one". "The
+-- reader's pool may hold any words": of p only its length counts.
+unfoldable pub loadState : Option State → List ℕ → Call
+loadState none p = refuses BadSaved p
+loadState (some S) p = elim (eqb (S .slots) (slotsIn p)) [ true ↦ gives (Done (nodes (S .top))) (wordsOf S) | false ↦ refuses NoFit p ]
+
+unfoldable pub loadCall : List ℕ → List ℕ → Call
+loadCall p bytes = elim (lengthGood p) [ false ↦ refuses PoolLength p | true ↦ loadState (loaded bytes) p ]

@@ -1,0 +1,4 @@
+pub mod Saved
+pub mod Loaded
+pub mod Calls
+pub mod There

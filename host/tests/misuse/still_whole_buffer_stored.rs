@@ -1,0 +1,12 @@
+//! The whole buffer is stored, and not the bytes that the save gave.
+//! compiles, and after the restart no text goes
+#![deny(warnings)]
+use chromatic::{Pool, Refused};
+
+fn main() {
+    let pool = Pool::prepare(vec![0; Pool::words_for(3)]).unwrap();
+    let mut out = [0; Pool::saved_bytes_for(3)];
+    pool.save(&mut out).unwrap();
+    let stored = out.to_vec();
+    assert_eq!(Pool::load(vec![0; Pool::words_for(3)], &stored).err(), Some(Refused::BadSaved));
+}
