@@ -77,7 +77,8 @@ impl Store {
         let loaded = Pool::load(vec![0; Pool::words_for(SLOTS)], &saved);
         Ok(loaded.map_err(|refused| {
             let what_to_do = if refused == Refused::NoFit { OTHER_SLOTS } else { NO_MARKS };
-            format!("{}\n{what_to_do}", self.at(&refused))
+            // For damaged bytes it says where they go wrong, which is to be read beside how many there are.
+            format!("{} ({} bytes): {refused}\n{what_to_do}", self.marks.display(), saved.len())
         })?)
     }
 

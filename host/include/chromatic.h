@@ -3,7 +3,9 @@
  * Lengths are in elements. A pointer may be NULL where its length is 0, and nowhere else. During a call what is written (pool,
  * answers, out) overlaps nothing else that is lent, the batch and the saved bytes included.
  * A batch is commands one after another, each an operation and its arguments. Numbers in it are seven-bit groups, the lowest first, the
- * top bit set where more follow, with no more groups than needed: 10 is the byte 0A, 200 the bytes C8 01 (docs/FORMATS.md). */
+ * top bit set where more follow, with no more groups than needed: 10 is the byte 0A, 200 the bytes C8 01 (docs/FORMATS.md).
+ * The place where a number goes wrong is a byte, counted from 0: its fifth if that is above 0F; else the end of the input, one past
+ * the last byte, if that cuts it short; else its last byte, a 00, if it is not in shortest form. */
 #ifndef CHROMATIC_H
 #define CHROMATIC_H
 
@@ -20,8 +22,8 @@ extern "C" {
 /* The number of this interface; docs/INTERFACE.md says what each has. The function returns it. With GCC and Clang every file that
  * includes this header refers to the function, so that a program does not link with an archive of another interface; with
  * another compiler, call it once. */
-#define CHROMATIC_INTERFACE 2
-uint32_t chromatic_interface_2(void);
+#define CHROMATIC_INTERFACE 3
+uint32_t chromatic_interface_3(void);
 #ifdef __GNUC__
 __attribute__((used))
 #ifdef __has_attribute
@@ -29,7 +31,7 @@ __attribute__((used))
 __attribute__((retain)) /* from --gc-sections */
 #endif
 #endif
-static uint32_t (*const chromatic_interface_needed)(void) = chromatic_interface_2;
+static uint32_t (*const chromatic_interface_needed)(void) = chromatic_interface_3;
 #endif
 
 #ifdef __GNUC__
@@ -49,7 +51,7 @@ enum chromatic_code {
     /* The call is refused whole, and no word changes. */
     CHROMATIC_WRONG_LENGTH = 1,
     CHROMATIC_RULES_BROKEN = 2,
-    CHROMATIC_BAD_COMMAND = 3, /* number: the byte where the first bad command begins */
+    CHROMATIC_BAD_COMMAND = 3, /* number: the place where a number goes wrong, or where an unknown operation or a 257th command begins */
     CHROMATIC_FEW_ANSWERS = 4,
     /* The command is refused, and no pool word changes. */
     CHROMATIC_KEY_PRESENT = 5,
@@ -62,7 +64,8 @@ enum chromatic_code {
     /* Not a refusal: the steps stand. */
     CHROMATIC_BUDGET_SPENT = 12,
     /* The call is refused whole, and no word or byte changes. */
-    CHROMATIC_BAD_SAVED = 13, /* no save writes these bytes: who was told is not known, so send nothing and do not prepare an empty pool */
+    CHROMATIC_BAD_SAVED = 13, /* no save writes these bytes: who was told is not known, so send nothing and do not prepare an empty pool;
+                               * number: the place where the first bad number goes wrong, or else the count of the bytes */
     CHROMATIC_NO_FIT = 14     /* too little room for the saved bytes; or a pool of another C than the one that was saved */
 };
 
@@ -93,8 +96,9 @@ CHROMATIC_MUST_USE uint32_t chromatic_audit(const uint32_t *pool, size_t pool_le
 /* The report's number at an index of enum chromatic_figure; 0 for a refused pool or any other index. */
 CHROMATIC_MUST_USE uint64_t chromatic_report(const uint32_t *pool, size_t pool_len, uint32_t index);
 
-/* Runs the commands: 0, or a refusal's code times 2 to the power 32 plus its number. A mark is set when this returns, before
- * its text goes out. */
+/* Runs the commands: 0, or a refusal's code times 2 to the power 32 plus its number: for code 3 the byte at which the batch goes
+ * wrong, at most 2,816, else 0. (A 257th command is wrong where it begins, whatever is inside it.) A mark is set when this returns,
+ * before its text goes out. */
 CHROMATIC_MUST_USE uint64_t chromatic_batch(uint32_t *pool, size_t pool_len, const uint8_t *batch, size_t batch_len,
                                             uint32_t *answers, size_t answers_len);
 
@@ -103,7 +107,10 @@ CHROMATIC_MUST_USE uint64_t chromatic_batch(uint32_t *pool, size_t pool_len, con
 CHROMATIC_MUST_USE uint64_t chromatic_save(const uint32_t *pool, size_t pool_len, uint8_t *out, size_t out_len);
 
 /* Makes the pool, whatever its words are, the set that was saved: N, or code 1, 13 or 14 (tried in that order) times 2 to the
- * power 32, and no word changes. The marks are those of when it was saved: never load older bytes. */
+ * power 32 plus its number, and no word changes. The number for code 13 is the byte at which the saved bytes go wrong: C, N and two
+ * numbers for each of N nodes are read first, and where all read and no save writes the whole, bytes left over included, it is the
+ * count of the bytes; a place past 32 bits is given as 4,294,967,295. For the other codes it is 0. The marks are those of when it was
+ * saved: never load older bytes. */
 CHROMATIC_MUST_USE uint64_t chromatic_load(uint32_t *pool, size_t pool_len, const uint8_t *saved, size_t saved_len);
 
 #define CHROMATIC_CODE(answer) CHROMATIC_AS(uint32_t, (answer) >> 32)

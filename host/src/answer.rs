@@ -15,14 +15,28 @@ pub enum Refused {
     RulesBroken,
     /// Code 3: a command is unknown, cut short, not in shortest form, too large, or the 257th.
     BadCommand {
-        /// Where the first such command begins, counted from 0.
-        byte: u32,
+        /// The byte at which the batch goes wrong, counted from 0; at most 2,816. Of a number it is the fifth byte if that is
+        /// above 0F; else the end of the batch, one past the last byte, if that cuts it short; else its last byte, a 00, if it is
+        /// not in shortest form. Of an unknown operation it is where its number begins, and of the 257th command where that
+        /// begins, whatever is wrong inside it.
+        ///
+        /// Proved: `batch-returns-place`, `batch-place-near`.
+        wrong_at: u32,
     },
     /// Code 4: fewer than two answer words per command.
     FewAnswers,
     /// Code 13: no save writes these bytes. They are cut short, damaged, or something else. Which texts went is not known
     /// then: send none, and do not [`prepare`](crate::Pool::prepare) an empty set in their place.
-    BadSaved,
+    BadSaved {
+        /// The byte at which they go wrong, counted from 0. C, N and two numbers for each of N nodes are read before anything is
+        /// judged. Of the first bad number it is the fifth byte if that is above 0F; else the end of the bytes, one past the
+        /// last, if that cuts it short; else its last byte, a 00, if it is not in shortest form. Where every number reads and no
+        /// save writes the whole, bytes left over included, it is the count of the bytes. A place past 32 bits is given as
+        /// 4,294,967,295.
+        ///
+        /// Proved: `load-returns-place`.
+        wrong_at: u32,
+    },
     /// Code 14: of a save, the output has too little room; of a load, the pool has another number of slots than the one that
     /// was saved.
     NoFit,
@@ -49,16 +63,16 @@ impl Refused {
             Refused::RulesBroken => Refused::RULES_BROKEN,
             Refused::BadCommand { .. } => Refused::BAD_COMMAND,
             Refused::FewAnswers => Refused::FEW_ANSWERS,
-            Refused::BadSaved => Refused::BAD_SAVED,
+            Refused::BadSaved { .. } => Refused::BAD_SAVED,
             Refused::NoFit => Refused::NO_FIT,
         }
     }
 
-    /// The number beside the code: the byte of a bad command, else 0.
+    /// The number beside the code: the byte at which a batch or saved bytes go wrong, else 0.
     pub fn number(self) -> u32 {
         match self {
-            Refused::BadCommand { byte } => byte,
-            Refused::WrongLength | Refused::RulesBroken | Refused::FewAnswers | Refused::BadSaved | Refused::NoFit => 0,
+            Refused::BadCommand { wrong_at } | Refused::BadSaved { wrong_at } => wrong_at,
+            Refused::WrongLength | Refused::RulesBroken | Refused::FewAnswers | Refused::NoFit => 0,
         }
     }
 
@@ -68,9 +82,9 @@ impl Refused {
             0 => Ok(()),
             Refused::WRONG_LENGTH => Err(Refused::WrongLength),
             Refused::RULES_BROKEN => Err(Refused::RulesBroken),
-            Refused::BAD_COMMAND => Err(Refused::BadCommand { byte: number }),
+            Refused::BAD_COMMAND => Err(Refused::BadCommand { wrong_at: number }),
             Refused::FEW_ANSWERS => Err(Refused::FewAnswers),
-            Refused::BAD_SAVED => Err(Refused::BadSaved),
+            Refused::BAD_SAVED => Err(Refused::BadSaved { wrong_at: number }),
             Refused::NO_FIT => Err(Refused::NoFit),
             _ => foreign(code),
         }
@@ -85,15 +99,18 @@ impl fmt::Display for Refused {
                 write!(f, "the pool's length is not that of 1 to {} slots; Pool::words_for gives it", layout::MOST_SLOTS)
             }
             Refused::RulesBroken => f.write_str("the pool breaks an audit rule; what it says of marks means nothing, send no text by it"),
-            Refused::BadCommand { byte } => write!(
+            Refused::BadCommand { wrong_at } => write!(
                 f,
-                "the command that begins at byte {byte} of the batch is unknown, cut short, not in shortest form, too large or the 257th; \
-                 a Batch writes none like it"
+                "the batch goes wrong at byte {wrong_at}, counted from 0: there a number is too large or not in shortest form, the batch \
+                 ends inside a command, or an unknown operation or the 257th command begins; nothing ran; write the batch anew, with a \
+                 Batch, which writes none like it"
             ),
             Refused::FewAnswers => f.write_str("there are fewer than two answer words per command; lend more"),
-            Refused::BadSaved => f.write_str(
-                "these bytes are no saved set; which texts went is not known: send none, do not begin empty, put back the bytes of \
-                 the last save",
+            Refused::BadSaved { wrong_at } => write!(
+                f,
+                "these bytes are no saved set: they go wrong at byte {wrong_at}, counted from 0, or, where that is their count, are cut \
+                 short or wrong as a whole; which texts went is not known: send none, do not begin empty, put back the bytes of the last \
+                 save"
             ),
             Refused::NoFit => f.write_str(
                 "it does not fit; to save, lend more room (Pool::saved_bytes_for gives enough); to load, lend words for as many slots as \
@@ -333,7 +350,10 @@ mod tests {
         let said = take_hook();
         set_hook(Box::new(|_| {})); // they would say hundreds of lines
         let wrong = [
-            own(&[0, 1, 2, 3, 4, 13, 14], |code| assert_eq!(Refused::check(code, 0).map_or_else(Refused::code, |()| 0), code)),
+            own(&[0, 1, 2, 3, 4, 13, 14], |code| {
+                let place = if matches!(code, 3 | 13) { 9 } else { 0 };
+                assert_eq!(Refused::check(code, 9).map_or_else(|refused| (refused.code(), refused.number()), |()| (0, 0)), (code, place));
+            }),
             own(&[0, 6], |code| assert_eq!(Searched::read(code, 9) == Searched::KeyAbsent, code == 6)),
             own(&[0, 5, 7], |code| assert_eq!(matches!(Inserted::read(1, code, 9), Inserted::NewlyMarked(_)), code == 0)),
             own(&[0, 6], |code| assert_eq!(Deleted::read(code, 9) == Deleted::KeyAbsent, code == 6)),

@@ -46,6 +46,7 @@
 //! | `pool.save(&mut out);`, `Pool::load(words, saved);`: done, or refused? | the same warning, `unused_must_use` | `save_unread` |
 //! | a second save into the same `out` while the first one's bytes are not stored | E0499 | `saved_over` |
 //! | an array of `Pool::words_for(0)` or of `words_for(1024)` words; of `saved_bytes_for(0)` or `saved_bytes_for(1024)` bytes | E0080 | `no_slots` |
+//! | code for 0.3.0, which takes code 3's number for the byte where the command begins: `Refused::BadCommand { byte, .. }` | E0026: the byte at which it goes wrong is `wrong_at` | `old_place` |
 //! | a `match` without a rest on [`Refused`], [`Command`] or any answer but the insert's; a [`Report`] made up: they can grow | E0004, E0639 | `rest_forgotten`, `report_made_up` |
 //!
 //! # What still compiles
@@ -103,6 +104,9 @@
 //!
 //! [`Refused`], [`Full`] and [`NoKind`] are `core::error::Error`s whose text says what to do; `?` takes them into a
 //! `Box<dyn Error>`. The three cases of an insert are no errors: they are answers.
+//!
+//! The byte at which a batch or saved bytes go wrong is `wrong_at` in [`Refused::BadCommand`] and [`Refused::BadSaved`], counted
+//! from 0. host/README.md shows how to read it.
 //!
 //! # Panics
 //!

@@ -156,10 +156,11 @@ impl<W: Words> Pool<W> {
     /// ```
     ///
     /// # Errors
-    /// [`Refused::WrongLength`]; [`Refused::BadSaved`] for bytes that no save writes; [`Refused::NoFit`] if these are words
-    /// for another number of slots than were saved. Then no word changes. (Words that were handed over are dropped.)
+    /// [`Refused::WrongLength`]; [`Refused::BadSaved`] for bytes that no save writes, with the byte at which they go wrong;
+    /// [`Refused::NoFit`] if these are words for another number of slots than were saved. Then no word changes. (Words that were
+    /// handed over are dropped.)
     ///
-    /// Proved: `load-after-save`, `save-again`, `load-codes`, `load-refused`.
+    /// Proved: `load-after-save`, `save-again`, `load-codes`, `load-refused`, `load-returns-place`.
     pub fn load(mut words: W, saved: &[u8]) -> Result<Pool<W>, Refused> {
         let [code, number] = halves(raw::load(&mut words, saved));
         Refused::check(code, number)?;
@@ -318,9 +319,10 @@ impl<W: Words> Pool<W> {
     /// words stay. No [`Mark`] comes of it: who sends by these words has to tell code 5 from code 7 without the types.
     ///
     /// # Errors
-    /// [`Refused::BadCommand`], [`Refused::FewAnswers`], or as [`Pool::audit`]; then no word of pool or answers changes.
+    /// [`Refused::BadCommand`] with the byte at which the batch goes wrong, [`Refused::FewAnswers`], or as [`Pool::audit`]; then
+    /// no word of pool or answers changes.
     ///
-    /// Proved: `refused-keeps`, `later-words`, `batch-decides`.
+    /// Proved: `refused-keeps`, `later-words`, `batch-decides`, `batch-returns-place`.
     pub fn run_bytes(&mut self, bytes: &[u8], answers: &mut [u32]) -> Result<(), Refused> {
         let [code, number] = halves(raw::batch(&mut self.words, bytes, answers));
         Refused::check(code, number)

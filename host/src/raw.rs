@@ -7,7 +7,7 @@
 
 mod c {
     extern "C" {
-        pub fn chromatic_interface_2() -> u32;
+        pub fn chromatic_interface_3() -> u32;
         pub fn chromatic_prepare(pool: *mut u32, pool_len: usize) -> u32;
         pub fn chromatic_audit(pool: *const u32, pool_len: usize) -> u32;
         pub fn chromatic_report(pool: *const u32, pool_len: usize, index: u32) -> u64;
@@ -24,12 +24,12 @@ mod c {
     }
 }
 
-/// The number of the interface that this crate is made for, 2; docs/INTERFACE.md says what each number has. The library's
+/// The number of the interface that this crate is made for, 3; docs/INTERFACE.md says what each number has. The library's
 /// function is named for it, and every function here calls it, so that an archive of another interface does not link.
 #[must_use]
 pub fn interface() -> u32 {
     // SAFETY: it takes nothing and changes nothing.
-    unsafe { c::chromatic_interface_2() }
+    unsafe { c::chromatic_interface_3() }
 }
 
 /// Makes a pool empty. Gives 0; or 1, changing nothing, if the length is not 4 + 4C with C from 1 to 1,023. (C slots hold
@@ -61,9 +61,10 @@ pub fn report(pool: &[u32], index: u32) -> u64 {
 }
 
 /// Runs the commands in `batch` and fills two answer words for each; words of `answers` after those stay. Gives 0; or,
-/// changing nothing, a refusal's code (1, 3, 4 or 2, tried in that order) times 4,294,967,296 plus its number.
+/// changing nothing, a refusal's code (1, 3, 4 or 2, tried in that order) times 4,294,967,296 plus its number: the byte at
+/// which the batch goes wrong for 3 ([`Refused::BadCommand`](crate::Refused::BadCommand)), else 0.
 ///
-/// Proved: `batch-decides`, `history`.
+/// Proved: `batch-decides`, `batch-returns-place`, `history`.
 #[must_use = "a refused call ran nothing, and its answer words are as they were"]
 pub fn batch(pool: &mut [u32], batch: &[u8], answers: &mut [u32]) -> u64 {
     let _ = interface();
@@ -85,9 +86,10 @@ pub fn save(pool: &[u32], out: &mut [u8]) -> u64 {
 }
 
 /// Makes the pool, whatever its words are, the set that was saved. Gives N, its nodes; or, changing nothing, a refusal's
-/// code (1, 13 or 14, tried in that order) times 4,294,967,296.
+/// code (1, 13 or 14, tried in that order) times 4,294,967,296 plus its number: the byte at which the saved bytes go wrong for
+/// 13 ([`Refused::BadSaved`](crate::Refused::BadSaved)), else 0.
 ///
-/// Proved: `load-after-save`, `load-codes`, `load-refused`.
+/// Proved: `load-after-save`, `load-codes`, `load-refused`, `load-returns-place`.
 #[must_use = "a refused call loaded nothing, and the pool's words are as they were"]
 pub fn load(pool: &mut [u32], saved: &[u8]) -> u64 {
     let _ = interface();

@@ -1,5 +1,5 @@
-/* The header compiles as C and C++, and its declarations fit the archive: P1, P6, a set saved and loaded, the order of refusals, NULL with
- * length 0. */
+/* The header compiles as C and C++, and its declarations fit the archive: P1, P6, a set saved and loaded, the order of refusals, the places
+ * where a batch and saved bytes go wrong, NULL with length 0. */
 #include "../include/chromatic.h"
 #include <stdio.h>
 #include <string.h>
@@ -17,6 +17,11 @@ static void check(int holds, const char *what) {
         printf("header.c: %s\n", what);
         failed = 1;
     }
+}
+
+/* A call that is refused with a place. */
+static uint64_t wrong_at(uint32_t code, uint32_t place) {
+    return UINT64_C(4294967296) * code + place;
 }
 
 /* The named numbers are those of docs/RULES.md. */
@@ -37,14 +42,75 @@ static void numbers(void) {
 static void limits(void) {
     static uint32_t pool[CHROMATIC_POOL_WORDS(CHROMATIC_MOST_SLOTS + 1)];
     static uint32_t answers[(CHROMATIC_MOST_COMMANDS + 1) * CHROMATIC_ANSWER_WORDS];
-    static uint8_t batch[(CHROMATIC_MOST_COMMANDS + 1) * 2];
+    static uint8_t batch[(CHROMATIC_MOST_COMMANDS + 1) * 2], longest[CHROMATIC_MOST_COMMANDS * 11 + 1];
+    const uint8_t longest_command[] = {CHROMATIC_STEP, 0xFF, 0xFF, 0xFF, 0xFF, 0x0F, 0xFF, 0xFF, 0xFF, 0xFF, 0x0F};
     const size_t words = CHROMATIC_POOL_WORDS(CHROMATIC_MOST_SLOTS), room = sizeof answers / sizeof answers[0];
     size_t i;
     for (i = 0; i < sizeof batch; i += 2) batch[i] = CHROMATIC_SEARCH;
     check(chromatic_prepare(pool, CHROMATIC_POOL_WORDS(CHROMATIC_MOST_SLOTS + 1)) == CHROMATIC_WRONG_LENGTH, "a slot too many");
     check(chromatic_prepare(pool, words) == CHROMATIC_GOOD, "the most slots");
     check(chromatic_batch(pool, words, batch, sizeof batch - 2, answers, room - 2) == 0, "the most commands, with just their answer words");
-    check(CHROMATIC_CODE(chromatic_batch(pool, words, batch, sizeof batch, answers, room)) == CHROMATIC_BAD_COMMAND, "a command too many");
+    check(chromatic_batch(pool, words, batch, sizeof batch, answers, room) == wrong_at(CHROMATIC_BAD_COMMAND, 512), "a command too many");
+    batch[513] = 0x80;
+    check(chromatic_batch(pool, words, batch, sizeof batch, answers, room) == wrong_at(CHROMATIC_BAD_COMMAND, 512), "and cut short");
+    batch[512] = 0x80;
+    batch[513] = 0;
+    check(chromatic_batch(pool, words, batch, sizeof batch, answers, room) == wrong_at(CHROMATIC_BAD_COMMAND, 512), "and not in shortest form");
+    for (i = 0; i < 256 * 11; i += 11) memcpy(longest + i, longest_command, sizeof longest_command);
+    check(chromatic_batch(pool, words, longest, sizeof longest - 1, answers, room) == 0, "the longest batch");
+    check(chromatic_batch(pool, words, longest, sizeof longest, answers, room) == wrong_at(CHROMATIC_BAD_COMMAND, 2816), "the last place");
+}
+
+/* Each cause, in a batch and in saved bytes. */
+static void places(void) {
+    static const struct {
+        uint8_t count, bytes[10];
+        uint32_t place;
+        const char *what;
+    } batches[] = {
+        {6, {2, 0xFF, 0xFF, 0xFF, 0xFF, 0x10}, 5, "a key's fifth byte is above 0F"},
+        {5, {0x80, 0x80, 0x80, 0x80, 0x80}, 4, "a fifth byte above 0F before the end of the batch"},
+        {4, {0x80, 0x80, 0x80, 0x80}, 4, "cut short before a fifth byte"},
+        {3, {2, 10, 2}, 3, "cut short before the key"},
+        {4, {2, 10, 2, 0x80}, 4, "cut short in the key"},
+        {2, {4, 1}, 2, "cut short before the kind"},
+        {6, {2, 10, 1, 0x80, 0, 5}, 4, "a key not in shortest form"},
+        {6, {1, 0x80, 0x80, 0x80, 0x80, 0}, 5, "a key of five bytes not in shortest form"},
+        {5, {4, 1, 0x83, 0, 1}, 3, "a kind not in shortest form"},
+        {2, {0x81, 0}, 1, "an operation not in shortest form"},
+        {4, {2, 10, 6, 10}, 2, "an unknown operation"},
+        {5, {2, 10, 0x82, 1, 0x80}, 2, "an unknown operation of two bytes"},
+        {1, {0}, 0, "operation 0"},
+    }, saved[] = {
+        {0, {0}, 0, "no bytes"},
+        {3, {0x87, 0, 0}, 1, "C not in shortest form"},
+        {5, {0x80, 0x80, 0x80, 0x80, 0x10}, 4, "C's fifth byte is above 0F"},
+        {1, {7}, 1, "cut short before N"},
+        {3, {7, 0x81, 0}, 2, "N not in shortest form"},
+        {6, {7, 0x80, 0x80, 0x80, 0x80, 0x80}, 5, "N's fifth byte is above 0F"},
+        {3, {7, 1, 2}, 3, "a node is cut short"},
+        {5, {7, 1, 0x82, 0, 5}, 3, "a node's weight not in shortest form"},
+        {9, {7, 1, 2, 0xFF, 0xFF, 0xFF, 0xFF, 0x10, 0}, 7, "a node's fifth byte is above 0F"},
+        {6, {0, 1, 4, 0x85, 0, 9}, 4, "C is 0, and the first bad number comes before what it says"},
+        {5, {7, 1, 2, 5, 0}, 5, "a byte is left over"},
+        {4, {7, 0, 0x80, 0}, 4, "what is left over is not read"},
+        {4, {7, 1, 4, 5}, 4, "every number reads, and the root's weight is 2"},
+        {2, {0, 0}, 2, "every number reads, and C is 0"},
+    };
+    uint32_t pool[CHROMATIC_POOL_WORDS(7)], answers[8] = {0};
+    const size_t words = sizeof pool / sizeof pool[0];
+    size_t i;
+
+    check(chromatic_prepare(pool, words) == CHROMATIC_GOOD, "prepare");
+    for (i = 0; i < sizeof batches / sizeof batches[0]; i++) {
+        const uint64_t refused = chromatic_batch(pool, words, batches[i].bytes, batches[i].count, answers, 8);
+        check(refused == wrong_at(CHROMATIC_BAD_COMMAND, batches[i].place), batches[i].what);
+    }
+    for (i = 0; i < sizeof saved / sizeof saved[0]; i++) {
+        const uint64_t refused = chromatic_load(pool, words, saved[i].bytes, saved[i].count);
+        check(refused == wrong_at(CHROMATIC_BAD_SAVED, saved[i].place), saved[i].what);
+    }
+    check(chromatic_report(pool, words, CHROMATIC_NODES) == 0 && chromatic_audit(pool, words) == CHROMATIC_GOOD, "the pool is empty yet");
 }
 
 /* With P1's tree, in 7 slots. */
@@ -69,12 +135,12 @@ static void over_a_restart(const uint32_t *pool, size_t words) {
     check(chromatic_save(pool, words - 1, out, 0) == UINT64_C(4294967296) * CHROMATIC_WRONG_LENGTH, "save: a wrong length first");
     check(chromatic_load(other, words - 1, out, 0) == UINT64_C(4294967296) * CHROMATIC_WRONG_LENGTH, "load: a wrong length first");
     check(chromatic_save(pool, words, out, count - 1) == UINT64_C(4294967296) * CHROMATIC_NO_FIT, "save: a byte too little");
-    check(chromatic_load(smaller, CHROMATIC_POOL_WORDS(3), out, count - 1) == UINT64_C(4294967296) * CHROMATIC_BAD_SAVED, "load: bad bytes second");
+    check(chromatic_load(smaller, CHROMATIC_POOL_WORDS(3), out, count - 1) == wrong_at(CHROMATIC_BAD_SAVED, 15), "load: bad bytes second");
     check(chromatic_load(smaller, CHROMATIC_POOL_WORDS(3), out, count) == UINT64_C(4294967296) * CHROMATIC_NO_FIT, "load: another C");
     other[3] = 1;
     check(chromatic_save(other, words, out, 0) == UINT64_C(4294967296) * CHROMATIC_RULES_BROKEN, "save: broken rules second");
     check(CHROMATIC_CODE(chromatic_save(pool, words, NOTHING, 0)) == CHROMATIC_NO_FIT, "save to NULL");
-    check(CHROMATIC_CODE(chromatic_load(other, words, NOTHING, 0)) == CHROMATIC_BAD_SAVED, "load from NULL");
+    check(chromatic_load(other, words, NOTHING, 0) == wrong_at(CHROMATIC_BAD_SAVED, 0), "load from NULL");
     check(CHROMATIC_CODE(chromatic_save(NOTHING, 0, NOTHING, 0)) == CHROMATIC_WRONG_LENGTH, "save at NULL");
     check(CHROMATIC_CODE(chromatic_load(NOTHING, 0, NOTHING, 0)) == CHROMATIC_WRONG_LENGTH, "load at NULL");
 }
@@ -92,6 +158,7 @@ int main(void) {
 
     numbers();
     limits();
+    places();
     memset(pool, 9, sizeof pool);
     check(chromatic_prepare(pool, words - 1) == CHROMATIC_WRONG_LENGTH, "prepare of a wrong length");
     check(chromatic_audit(pool, words) == CHROMATIC_RULES_BROKEN, "audit of noise");
@@ -103,10 +170,10 @@ int main(void) {
         check(chromatic_report(pool, words, index) == figures[index], "report");
     over_a_restart(pool, words);
     refused = chromatic_batch(pool, words, batch, sizeof batch - 1, answers, 0);
-    check(CHROMATIC_CODE(refused) == CHROMATIC_BAD_COMMAND && CHROMATIC_NUMBER(refused) == 12, "bad command");
+    check(CHROMATIC_CODE(refused) == CHROMATIC_BAD_COMMAND && CHROMATIC_NUMBER(refused) == 13, "bad command");
     refused = chromatic_batch(pool, words, batch, sizeof batch, answers, room - 1);
     check(refused == UINT64_C(4294967296) * CHROMATIC_FEW_ANSWERS, "few answers");
-    check(chromatic_interface_2() == CHROMATIC_INTERFACE, "the interface's number");
+    check(chromatic_interface_3() == CHROMATIC_INTERFACE, "the interface's number");
     check(chromatic_batch(pool, words, two_hundred, sizeof two_hundred, answers, room) == 0 && answers[0] == CHROMATIC_KEY_ABSENT, "200 in two bytes");
 
     check(chromatic_batch(pool, words, NOTHING, 0, NOTHING, 0) == 0, "an empty batch at NULL");

@@ -35,10 +35,17 @@ readme_example() {
     [ -n "$line" ] || { echo "README.md has no such line"; return 1; }
     [ "$(cd "$root" && eval "$line" | tr '\n' ' ')" = '0 1 0 3 0 2 ' ]
 }
+# Beside an input there may be what is printed, known by hand; where the batch is refused, there is.
 same_lines() { # INPUT COMMAND...
-    input=$1
+    input=$1 known=${1%.in}.expected
     shift
-    "$@" --quiet --example marks <"$input" >"$target/program.library" && "$root/marks" <"$input" >"$target/program.out" && diff "$target/program.library" "$target/program.out"
+    "$@" --quiet --example marks <"$input" >"$target/program.library" && "$root/marks" <"$input" >"$target/program.out" && diff "$target/program.library" "$target/program.out" || return 1
+    if [ -f "$known" ]; then
+        diff "$known" "$target/program.out"
+    elif grep '^refused' "$target/program.out"; then
+        echo "which byte that should be is not stored in $known"
+        return 1
+    fi
 }
 
 # What cannot be read or written the program says on standard error, and ./marks ends with status 1.

@@ -181,11 +181,13 @@ refuses_bad_files() { # PROGRAM
     cut=0
     while [ "$cut" -lt "$whole" ]; do
         head -c "$cut" "$area/ten" >"$store/marks"
-        refuses "$1" 'refused with code 13: ' || { echo "with $cut of its bytes"; return 1; }
+        refuses "$1" "marks ($cut bytes): refused with code 13: these bytes are no saved set: they go wrong at byte $cut," || { echo "with $cut of its bytes"; return 1; }
         cut=$((cut + 1))
     done
     { cat "$area/ten"; printf '\000'; } >"$store/marks"
-    refuses "$1" 'refused with code 13: ' || return 1
+    refuses "$1" "they go wrong at byte $((whole + 1))," || return 1
+    printf '\177\001\002\212\000\000' >"$store/marks" # its key, 10, is not in shortest form, and a byte is left over
+    refuses "$1" 'they go wrong at byte 4,' || return 1
     printf '\011\000' >"$store/marks" # an empty set of 9 slots
     refuses "$1" 'refused with code 14: ' || return 1
     rm "$store/marks"

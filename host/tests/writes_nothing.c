@@ -17,10 +17,31 @@ static void check(int holds, const char *what) {
     }
 }
 
+/* A call that is refused with a place. */
+static uint64_t wrong_at(uint32_t code, size_t place) {
+    return UINT64_C(4294967296) * code + place;
+}
+
+/* A place past 32 bits. The bytes are zeros that may only be read: C and N are 0, every number reads, and the place is the count. */
+static void far_places(uint32_t *pool, size_t words) {
+    const size_t last = UINT32_MAX, most = last + 7;
+    const uint64_t at_last = wrong_at(CHROMATIC_BAD_SAVED, last);
+    const uint8_t *zeros = mmap(NULL, most, PROT_READ, MAP_PRIVATE | MAP_ANONYMOUS | MAP_NORESERVE, -1, 0);
+
+    if (zeros == MAP_FAILED) {
+        puts("not tried: a place past 32 bits, since there is no room for 4 GiB of addresses");
+        return;
+    }
+    check(chromatic_load(pool, words, zeros, last - 1) == at_last - 1, "a place below 4,294,967,295");
+    check(chromatic_load(pool, words, zeros, last) == at_last, "place 4,294,967,295");
+    check(chromatic_load(pool, words, zeros, last + 1) == at_last, "the first place past 32 bits");
+    check(chromatic_load(pool, words, zeros, most) == at_last, "a place past 32 bits");
+}
+
 /* A save writes its bytes, and those past the count and every pool word stay; a refused save or load writes nothing. `out` is two pages,
  * of which the second may only be read. */
 static void saving(uint32_t *pool, size_t words, uint8_t *out, size_t page) {
-    const uint8_t cut_short[] = {7, 7, 3}, other_slots[] = {3, 0};
+    const uint8_t padded[] = {7, 1, 2, 0x85, 0, 9}, other_slots[] = {3, 0};
     uint8_t *end = out + page;
     size_t count;
 
@@ -33,7 +54,10 @@ static void saving(uint32_t *pool, size_t words, uint8_t *out, size_t page) {
     check(CHROMATIC_CODE(chromatic_save(pool, words - 1, out, page)) == CHROMATIC_WRONG_LENGTH, "save refused with 1");
     check(CHROMATIC_CODE(chromatic_save(pool, words, out, count - 1)) == CHROMATIC_NO_FIT, "save refused with 14");
     check(CHROMATIC_CODE(chromatic_load(pool, words - 1, out, count)) == CHROMATIC_WRONG_LENGTH, "load refused with 1");
-    check(CHROMATIC_CODE(chromatic_load(pool, words, cut_short, sizeof cut_short)) == CHROMATIC_BAD_SAVED, "load refused with 13");
+    check(chromatic_load(pool, words, padded, sizeof padded) == wrong_at(CHROMATIC_BAD_SAVED, 4), "load refused with 13 and a place");
+    check(chromatic_load(pool, words, out, count - 1) == wrong_at(CHROMATIC_BAD_SAVED, count - 1), "load refused with 13, cut short");
+    check(chromatic_load(pool, words, end - count, count + page) == wrong_at(CHROMATIC_BAD_SAVED, count + page), "load refused with 13, too long");
+    far_places(pool, words);
     check(CHROMATIC_CODE(chromatic_load(pool, words, other_slots, sizeof other_slots)) == CHROMATIC_NO_FIT, "load refused with 14");
     check(mprotect(pool, page, PROT_READ | PROT_WRITE) == 0, "the pool may be written");
     check(chromatic_load(pool, words, out, count) == 7, "load, from bytes that may only be read");
@@ -62,7 +86,7 @@ int main(void) {
     for (size_t i = 0; i < asked; i++) check(answers[CHROMATIC_ANSWER_WORDS * i] == codes[i], "its code");
     check(mprotect(answers, page, PROT_READ) == 0, "the answers may only be read");
     check(CHROMATIC_CODE(chromatic_batch(pool, words - 1, asking, sizeof asking, answers, room)) == CHROMATIC_WRONG_LENGTH, "refused with 1");
-    check(CHROMATIC_CODE(chromatic_batch(pool, words, asking, sizeof asking - 1, answers, room)) == CHROMATIC_BAD_COMMAND, "refused with 3");
+    check(chromatic_batch(pool, words, asking, sizeof asking - 1, answers, room) == wrong_at(CHROMATIC_BAD_COMMAND, sizeof asking - 1), "refused with 3");
     check(CHROMATIC_CODE(chromatic_batch(pool, words, asking, sizeof asking, answers, room - 1)) == CHROMATIC_FEW_ANSWERS, "refused with 4");
     saving(pool, words, out, page);
     pool[2] += 1;

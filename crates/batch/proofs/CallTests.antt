@@ -10,7 +10,7 @@ use lib.ListN.{length}
 use borrow.Author.Tests.{not-true, not-false}
 use Rattle.tree.specs.declared.Refusal.{Refusal}
 use Rattle.tree.specs.declared.Refusal.the-variants.{PoolLength, RulesBroken, BadCommand, FewAnswers}
-use Rattle.tree.specs.Codes.{code}
+use Rattle.tree.specs.Codes.{code, numberBeside}
 use Rattle.tree.specs.State.{levelTop}
 use Rattle.format.specs.declared.Header.{Header}
 use Rattle.format.specs.Words.{headerOf, lengthGood}
@@ -25,13 +25,13 @@ use Rattle.commands.proofs.Running.{scanned-commands, scanned-bad, batch-size, 
 use Rattle.batch.specs.Ready.{Ready}
 
 -- "refuse the call [..] and change no word"
-pub call-refuses : (f : Refusal) (p bytes out : List ℕ) {n a b : ℕ} → batch p bytes out ≡ refused f n p out → (a ≡ code f) × (b ≡ n)
+pub call-refuses : (f : Refusal) (p bytes out : List ℕ) {a b : ℕ} → batch p bytes out ≡ refused f p out → (a ≡ code f) × (b ≡ numberBeside f)
     → (a ≡ (batch p bytes out) .code) × ((b ≡ (batch p bytes out) .number) × ((p ≡ (batch p bytes out) .pool) × (out ≡ (batch p bytes out) .answers)))
 unfolding refused
 call-refuses f p bytes out e h = rw e (h .0, (h .1, (refl, refl)))
 
 module _ (bytes : List ℕ) (found : Scanned) (scan : found ≡ scanned (readBatch bytes)) where
-  -- where the first bad command begins fits a word, and so does twice the number of commands
+  -- the byte at which a batch goes wrong fits a word, and so does twice the number of commands
   pub place-fits : (i : ℕ) → found ≡ BadAt i → i ≤ 2816
   place-fits i e = batch-bad bytes (scanned-bad (readBatch bytes) (sym scan ∙ e)) .1
 
@@ -39,7 +39,7 @@ module _ (bytes : List ℕ) (found : Scanned) (scan : found ≡ scanned (readBat
   count-fits n e =
       let x = scanned-commands (readBatch bytes) (sym scan ∙ e) in omega (arith, x .2, batch-size bytes (x .1) .0)
 
-  pub finds-bad : (p out : List ℕ) → lengthGood p ≡ true → (i : ℕ) → found ≡ BadAt i → batch p bytes out ≡ refused BadCommand i p out
+  pub finds-bad : (p out : List ℕ) → lengthGood p ≡ true → (i : ℕ) → found ≡ BadAt i → batch p bytes out ≡ refused (BadCommand i) p out
   finds-bad p out good i e = bad-ends p bytes out good (scanned-bad (readBatch bytes) (sym scan ∙ e))
 
   -- nothing refuses the call
@@ -67,16 +67,16 @@ module _ (bytes : List ℕ) (found : Scanned) (scan : found ≡ scanned (readBat
 -- The same from the tests as the code makes them, for a `search` that takes what stands before a return, wherever it stands: `long` is
 -- what the test of the length gave, `found` what was found in the bytes, `given` the audit's code.
 module _ (p bytes out : List ℕ) {long : Bool} (l : long ≡ lengthGood p) where
-  pub test-length : not long ≡ true → batch p bytes out ≡ refused PoolLength 0 p out
+  pub test-length : not long ≡ true → batch p bytes out ≡ refused PoolLength p out
   test-length t = length-ends p bytes out (sym l ∙ not-true long t)
 
   module _ (t : not long ≡ false) {found : Scanned} (scan : found ≡ scanned (readBatch bytes)) {n : ℕ} (e : found ≡ Commands n) where
-    pub test-few : length out < 2 * n → batch p bytes out ≡ refused FewAnswers 0 p out
+    pub test-few : length out < 2 * n → batch p bytes out ≡ refused FewAnswers p out
     test-few h =
         let x = scanned-commands (readBatch bytes) (sym scan ∙ e) in
         few-ends p bytes out (sym l ∙ not-false long t) (x .1) (omega (arith, x .2))
 
-    pub test-broken : 2 * n ≤ length out → {given : ℕ} → given ≡ auditCode p → given ≢ 0 → batch p bytes out ≡ refused RulesBroken 0 p out
+    pub test-broken : 2 * n ≤ length out → {given : ℕ} → given ≡ auditCode p → given ≢ 0 → batch p bytes out ≡ refused RulesBroken p out
     test-broken h a b =
         let x = scanned-commands (readBatch bytes) (sym scan ∙ e) in
         let good = sym l ∙ not-false long t in

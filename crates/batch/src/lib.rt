@@ -20,7 +20,7 @@ use updates::delete_under;
 use updates::insert_under;
 use updates::search_under;
 ghost use mathlib.Core.Path.{_≡_};
-ghost use Rattle.tree.specs.Codes.{code};
+ghost use Rattle.tree.specs.Codes.{code, numberBeside};
 ghost use Rattle.encoding.specs.Batch.{batch};
 ghost use Rattle.batch.specs.Operated.{performOn, putAnswer};
 ghost use Rattle.batch.specs.Ready.{Ready};
@@ -86,13 +86,13 @@ pub struct Called {
     pub number: u32,
 }
 
-fn refuse(f: Refusal, number: u32) -> Called
+fn refuse(f: Refusal) -> Called
     ensures code { λ r. ⌜ r .code ≡ code f ⌝ }
-    ensures number { λ r. ⌜ r .number ≡ number ⌝ }
+    ensures number { λ r. ⌜ r .number ≡ numberBeside f ⌝ }
 {
     Called {
         code: f.code(),
-        number,
+        number: f.number(),
     }
 }
 
@@ -105,17 +105,20 @@ pub fn batch(pool: &mut [u32], bytes: &[u8], answers: &mut [u32]) -> Called
     ensures answers { λ _. ⌜ now (answers .exit) ≡ (batch (now (pool .entry)) (now (bytes .entry)) (now (answers .entry))) .answers ⌝ }
 {
     if !length_good(pool) {
-        return refuse(Refusal::PoolLength, 0);
+        return refuse(Refusal::PoolLength);
     }
     let found = scan(bytes);
     match found {
-        Scanned::BadAt(place) => refuse(Refusal::BadCommand, place as u32),
+        Scanned::BadAt(place) => {
+            let byte = place as u32;
+            refuse(Refusal::BadCommand(byte))
+        }
         Scanned::Commands(count) => {
             if answers.len() < ANSWER_WORDS * count {
-                return refuse(Refusal::FewAnswers, 0);
+                return refuse(Refusal::FewAnswers);
             }
             if audit(pool) != Answer::DONE {
-                return refuse(Refusal::RulesBroken, 0);
+                return refuse(Refusal::RulesBroken);
             }
             let h = get_header(pool);
             run(pool, h, bytes, answers);

@@ -1,3 +1,4 @@
 pub mod Exports
 pub mod Restart
+pub mod Places
 pub mod Decides

@@ -20,6 +20,7 @@ use Rattle.encoding.specs.Numbers.{Bytes}
 use Rattle.saved.specs.Saved.{savedBytes, renumberedState, AlikeTop}
 use Rattle.saved.specs.Calls.{Call, gives, saveCall, loadCall}
 use Rattle.saved.proofs.Lengths.{saved-length}
+use Rattle.saved.proofs.Places.{word-small}
 use Rattle.saved.proofs.Saves.{renumbered-sound, renumbered-keeps}
 use Rattle.saved.proofs.Restarts.{SaveEnds, save-ends-1, save-ends-2, save-ends-14, save-ends-0, save-ends, LoadEnds, load-ends-1, load-ends-13, load-ends-14, load-ends-0, load-ends, save-kept, into-fits, Saving, save-says, load-after-save, save-again}
 use Rattle.chromatic.specs.Exports.{codeUnit, inOneWord, returnedAnswer}
@@ -29,7 +30,7 @@ pub answer-parts : (a : Answer) → numberOf a < codeUnit → (returnedAnswer a 
 unfolding returnedAnswer
 answer-parts a h = word-parts (codeOf a) (numberOf a) h
 
--- What is beside 0: a byte count of at most 7N + 4, and N; beside a refusal 0.
+-- What is beside 0: a byte count of at most 7N + 4, and N; beside 13 a place as a word; beside any other refusal 0.
 pub save-small : (p out : List ℕ) → Words32 p → numberOf ((saveCall p out) .answer) < codeUnit
 save-small p out words = go (save-ends p out)
   where
@@ -44,7 +45,7 @@ load-small p bytes b = go (load-ends p bytes b)
   where
     go : {r : Call} → LoadEnds p bytes r → numberOf (r .answer) < codeUnit
     go (load-ends-1 e) = omega arith
-    go (load-ends-13 e f) = omega arith
+    go (load-ends-13 {j} e f g) = omega (arith, word-small j)
     go (load-ends-14 e S f g) = omega arith
     go (load-ends-0 e S f g) = omega (arith, sound-total (f .sound), f .sound .few)
 

@@ -5,3 +5,4 @@ pub mod Running
 pub mod Decides
 pub mod Faults
 pub mod Written
+pub mod Prefix

@@ -23,10 +23,10 @@ module _ (bytes : List ℕ) where
   unfolding readFrom
   read-over n i h z = rw (z, lt-leb _ _ h, readFrom)
 
-  pub read-fault : (n i j : ℕ) → i < length bytes → commandAt bytes i ≡ Fault j → readFrom n bytes i ≡ badAt i
+  pub read-fault : (n i j : ℕ) → i < length bytes → (n ≡ 0 → ⊥) → commandAt bytes i ≡ Fault j → readFrom n bytes i ≡ badAt j
   unfolding readFrom
-  read-fault zero i j h e = rw (lt-leb _ _ h, readFrom)
-  read-fault (suc n) i j h e = rw (lt-leb _ _ h, e, readFrom)
+  read-fault zero i j h z e = absurd (z refl)
+  read-fault (suc n) i j h z e = rw (lt-leb _ _ h, e, readFrom)
 
   pub read-good : (n i : ℕ) (c : Command) (next : ℕ) → i < length bytes → (n ≡ 0 → ⊥) → commandAt bytes i ≡ Next c next
       → readFrom n bytes i ≡ after c (readFrom (n - 1) bytes next)
@@ -38,7 +38,7 @@ module _ (bytes : List ℕ) where
 pub data Taken (bytes : List ℕ) : ℕ → ℕ → Batch → Type 0 where
   taken-end : {n i : ℕ} → length bytes ≤ i → Taken bytes n i (commands [])
   taken-over : {i : ℕ} → i < length bytes → Taken bytes 0 i (badAt i)
-  taken-fault : {n i j : ℕ} → i < length bytes → commandAt bytes i ≡ Fault j → Taken bytes n i (badAt i)
+  taken-fault : {n i j : ℕ} → i < length bytes → commandAt bytes i ≡ Fault j → Taken bytes (suc n) i (badAt j)
   taken-good : {n i next : ℕ} {c : Command} {cs : List Command} → i < length bytes → commandAt bytes i ≡ Next c next
       → Taken bytes n next (commands cs) → Taken bytes (suc n) i (commands (c ∷ cs))
   taken-bad : {n i j next : ℕ} {c : Command} → i < length bytes → commandAt bytes i ≡ Next c next → Taken bytes n next (badAt j)
@@ -66,4 +66,4 @@ module _ (bytes : List ℕ) where
       at-command (Next c next) e h t =
           rw (read-good bytes (suc n) i c next h (λ z. omega arith) e, sub-one (suc n))
           (onward n i c next h e (readFrom n bytes next) (t next))
-      at-command (Fault j) e h t = rw (read-fault bytes (suc n) i j h e) (taken-fault h e)
+      at-command (Fault j) e h t = rw (read-fault bytes (suc n) i j h (λ z. omega arith) e) (taken-fault h e)

@@ -1,5 +1,5 @@
 -- What a second reading may rely on, which runs a good batch's commands one by one: the commands that were read stand one after the
--- other in the bytes. And how long a good batch is, and where a bad command can begin. Assumes nothing.
+-- other in the bytes. And how long a good batch is, and at which byte a bad one can go wrong. Assumes nothing.
 use mathlib.Core.Path.{_≡_, refl, sym, ap, _∙_}
 use mathlib.Core.List.{List, [], _∷_, _++_, append-assoc, append-nil}
 use mathlib.Core.Logic.{_↔_}
@@ -15,7 +15,7 @@ use Rattle.tree.specs.State.{keyEnd}
 use Rattle.encoding.specs.Numbers.{Bytes}
 use Rattle.encoding.proofs.Performs.{AllSmall}
 use Rattle.numbers.proofs.Shortest.{number-value}
-use Rattle.commands.proofs.Commands.{Parsed, one-argument, two-arguments, parsed, command-place}
+use Rattle.commands.proofs.Commands.{Parsed, one-argument, two-arguments, parsed, command-place, fault-place}
 use Rattle.commands.proofs.Reading.{Taken, taken, taken-end, taken-over, taken-fault, taken-good, taken-bad, read-end, read-good}
 
 -- the commands cs stand in the bytes from place i to the end
@@ -92,14 +92,14 @@ module _ {bytes : List ℕ} {cs done rest : List Command} {at : ℕ} (w : Runnin
   pub running-more : (at < length bytes) ↔ (length done < length cs)
   running-more = (λ h. omega (arith, counts, left (w .ahead) h), λ h. goes-on (w .ahead) (omega (arith, counts)))
 
--- "a good batch has at most 2,816" bytes: 256 commands of 11. A bad command begins no later, and before the end.
+-- "a good batch has at most 2,816" bytes: 256 commands of 11. A batch goes wrong no later, and at its end at the latest.
 stand-size : {bytes : List ℕ} {i : ℕ} {cs : List Command} → StandFrom bytes i cs → length bytes ≤ i + 11 * length cs
 stand-size (stand-none h) = omega arith
 stand-size {bytes} {i} (stand-some h e s) = omega (arith, stand-size s, command-place bytes i e)
 
-bad-place : {bytes : List ℕ} {n i j : ℕ} → Taken bytes n i (badAt j) → (j < length bytes) × (j ≤ i + 11 * n)
+bad-place : {bytes : List ℕ} {n i j : ℕ} → Taken bytes n i (badAt j) → (j ≤ length bytes) × (j ≤ i + 11 * n)
 bad-place (taken-over h) = omega arith
-bad-place (taken-fault h e) = omega arith
+bad-place {bytes} {i = i} (taken-fault h e) = omega (arith, fault-place bytes i e)
 bad-place {bytes} {i = i} (taken-bad h e t) = omega (arith, bad-place t, command-place bytes i e)
 
 pub batch-size : (bytes : List ℕ) {cs : List Command} → readBatch bytes ≡ commands cs
@@ -107,7 +107,7 @@ pub batch-size : (bytes : List ℕ) {cs : List Command} → readBatch bytes ≡ 
 unfolding readBatch
 batch-size bytes {cs} e = let s = read-exactly mostCommands bytes 0 cs .0 e in omega (arith, s .1, stand-size (s .0))
 
-pub batch-bad : (bytes : List ℕ) {j : ℕ} → readBatch bytes ≡ badAt j → (j < length bytes) × (j ≤ 2816)
+pub batch-bad : (bytes : List ℕ) {j : ℕ} → readBatch bytes ≡ badAt j → (j ≤ length bytes) × (j ≤ 2816)
 unfolding readBatch
 batch-bad bytes e = bad-place (rw e at (taken bytes mostCommands 0))
 

@@ -48,9 +48,9 @@ module _ {bytes : List ℕ} {count at : ℕ} (s : Scanning bytes count at) where
   unfolding scanned
   scan-over h e = answer (badAt at) (read-over bytes (mostCommands - count) at h (omega arith))
 
-  pub scan-fault : (j : ℕ) → at < length bytes → commandAt bytes at ≡ Fault j → BadAt at ≡ scanned (readBatch bytes)
+  pub scan-fault : (j : ℕ) → at < length bytes → (count ≡ mostCommands → ⊥) → commandAt bytes at ≡ Fault j → BadAt j ≡ scanned (readBatch bytes)
   unfolding scanned
-  scan-fault j h e = answer (badAt at) (read-fault bytes (mostCommands - count) at j h e)
+  scan-fault j h z e = let r = s .few in answer (badAt j) (read-fault bytes (mostCommands - count) at j h (λ y. omega arith) e)
 
   pub scan-good : (c : Command) (next : ℕ) → at < length bytes → (count ≡ mostCommands → ⊥) → commandAt bytes at ≡ Next c next
       → Scanning bytes (count + 1) next

@@ -6,27 +6,26 @@ use mathlib.Core.Logic.{_↔_, _≢_}
 use mathlib.Core.Bool.{Bool, true, false}
 use mathlib.Core.List.{List, [], _∷_, _++_, append-assoc, append-nil}
 use lib.Dec.{eqb}
-use lib.ListN.{length, getD, take, drop, length-append, length-take, length-drop, take-append-drop, drop-of-length-le}
+use lib.ListN.{length, drop, length-append, take-append-drop, drop-of-length-le}
 use lib.Seq.{drop-drop}
 use borrow.Author.Tests.{eq-eqb, ne-eqb}
-use Prim.Native.Nat.{ℕ, zero, suc, _+_, _-_, _≤_, _<_, _^_}
+use Prim.Native.Nat.{ℕ, zero, suc, _+_, _-_, _≤_, _<_}
 use native.Mathlib.Omega.{arith}
 use Rattle.tree.specs.State.{keyEnd}
 use Rattle.tree.proofs.Tests.{same-or-not}
 use Rattle.encoding.specs.declared.Number.the-variants.{Read}
 use Rattle.encoding.specs.declared.Operation.{Operation}
-use Rattle.encoding.specs.declared.Which.the-variants.{Known}
 use Rattle.encoding.specs.declared.Command.{Command}
 use Rattle.encoding.specs.declared.Reading.the-variants.{Next}
 use Rattle.encoding.specs.Numbers.{Bytes, number}
 use Rattle.encoding.specs.Operations.{operationNumber, arguments}
-use Rattle.encoding.specs.Batch.{mostCommands, command, lastArgument, argumentsAt, meantAt, operationAt, commandAt, commands, readBatch}
+use Rattle.encoding.specs.Batch.{mostCommands, command, lastArgument, argumentsAt, commandAt, commands, readBatch}
 use Rattle.encoding.proofs.OperationNumbers.{which-known, which-number, operation-small}
 use Rattle.numbers.specs.Shortest.{bytesOf}
 use Rattle.numbers.proofs.Took.{shortest-some, shortest-bytes}
 use Rattle.numbers.proofs.Shortest.{number-place, number-value, number-shortest, number-reads}
 use Rattle.commands.specs.Written.{secondBytes, commandBytes, batchBytes, Fits, AllFit}
-use Rattle.commands.proofs.Commands.{Parsed, one-argument, two-arguments, only, two, parsed, command-place}
+use Rattle.commands.proofs.Commands.{Parsed, one-argument, two-arguments, only, two, meant, parsed, command-place}
 use Rattle.commands.proofs.Running.{StandFrom, stand-none, stand-some, read-exactly}
 
 -- What is written is read.
@@ -56,8 +55,7 @@ module _ (xs ys : List ℕ) (o : Operation) (a b : ℕ) (ha : a < keyEnd) (hb : 
   read-first rest = rw (← append-assoc xs ob (ab ++ rest)) (number-at (xs ++ ob) rest (length xs + length ob) a (sym (length-append xs ob)) ha)
 
   read-meant : (rest : List ℕ) → commandAt (whole rest) (length xs) ≡ argumentsAt (whole rest) o (length xs + length ob)
-  unfolding commandAt operationAt meantAt
-  read-meant rest = rw (read-operation rest, which-known o)
+  read-meant rest = meant (whole rest) (length xs) (read-operation rest) (which-known o)
 
   pub one-read : arguments o ≡ 1 → commandAt (whole ys) (length xs) ≡ Next (command o a 0) (length xs + length ob + length ab)
   one-read e = read-meant ys ∙ only (whole ys) o (length xs + length ob) a _ e (read-first ys)

@@ -1,5 +1,5 @@
--- Document 01, code 3: in which ways a command is bad, and where the first bad one of a batch begins (RULES 7). (That the reader refuses
--- exactly these, and just there, is `bad-exactly`.)
+-- Document 01, code 3, and 02 (ii): in which ways a command is bad, and at which byte a batch goes wrong (RULES 7). (That the reader refuses
+-- exactly these, and gives that byte, is `bad-exactly`.)
 use mathlib.Core.Path.{_≡_}
 use mathlib.Core.Logic.{_≢_}
 use mathlib.Core.List.{List, [], _∷_}
@@ -14,25 +14,26 @@ use Rattle.encoding.specs.Operations.{operationNumber, arguments}
 use Rattle.encoding.specs.Batch.{mostCommands, commandAt}
 use Rattle.numbers.specs.Faults.{BadNumber}
 
--- RULES 7.6: "a command is unknown, cut short, not in shortest form, too large": the command that begins at place i, by its first bad
--- number.
-pub data BadCommand (bytes : List ℕ) (i : ℕ) : Type 0 where
-  bad-operation : BadNumber bytes i → BadCommand bytes i
-  unknown : {n next : ℕ} → number bytes i ≡ Read n next → ((o : Operation) → n ≢ operationNumber o) → BadCommand bytes i
-  bad-first : (o : Operation) {next : ℕ} → number bytes i ≡ Read (operationNumber o) next → BadNumber bytes next → BadCommand bytes i
-  bad-second : (o : Operation) {next a mid : ℕ} → arguments o ≢ 1 → number bytes i ≡ Read (operationNumber o) next → number bytes next ≡ Read a mid
-      → BadNumber bytes mid → BadCommand bytes i
+-- RULES 7.6: "a command is unknown, cut short, not in shortest form, too large": the command that begins at place i goes wrong at byte j, in its
+-- first bad number. 02 (ii): "An unknown operation number gives the byte where its number begins".
+pub data BadCommand (bytes : List ℕ) (i : ℕ) : ℕ → Type 0 where
+  bad-operation : {j : ℕ} → BadNumber bytes i j → BadCommand bytes i j
+  unknown : {n next : ℕ} → number bytes i ≡ Read n next → ((o : Operation) → n ≢ operationNumber o) → BadCommand bytes i i
+  bad-first : (o : Operation) {next j : ℕ} → number bytes i ≡ Read (operationNumber o) next → BadNumber bytes next j → BadCommand bytes i j
+  bad-second : (o : Operation) {next a mid j : ℕ} → arguments o ≢ 1 → number bytes i ≡ Read (operationNumber o) next → number bytes next ≡ Read a mid
+      → BadNumber bytes mid j → BadCommand bytes i j
 
 -- the commands cs stand one after the other in the bytes, from place i up to place j
 pub data StandTo (bytes : List ℕ) : ℕ → List Command → ℕ → Type 0 where
   none-stand : {i : ℕ} → StandTo bytes i [] i
   one-stands : {i next j : ℕ} {c : Command} {cs : List Command} → commandAt bytes i ≡ Next c next → StandTo bytes next cs j → StandTo bytes i (c ∷ cs) j
 
--- From place i on, where at most n commands may stand: good ones up to place j, where a bad one begins, or one more than n.
+-- From place i on, where at most n commands may stand: good ones up to a place where a bad one begins, which goes wrong at byte j; or n good
+-- ones up to place j, where one more begins, whatever stands in it.
 pub data BadFrom (bytes : List ℕ) (n i j : ℕ) : Type 0 where
-  bad-one : {cs : List Command} → StandTo bytes i cs j → length cs < n → j < length bytes → BadCommand bytes j → BadFrom bytes n i j
+  bad-one : {k : ℕ} {cs : List Command} → StandTo bytes i cs k → length cs < n → k < length bytes → BadCommand bytes k j → BadFrom bytes n i j
   too-many : {cs : List Command} → StandTo bytes i cs j → length cs ≡ n → j < length bytes → BadFrom bytes n i j
 
--- RULES 7.6: ".. or the 257th", with the "byte, counted from 0, where the first such command begins"
+-- RULES 7.6: ".. or the 257th", by 02 (ii) with "the byte where its number begins [..], which counts before any fault inside it"
 abbrev pub FirstBad : List ℕ → ℕ → Type 0
 FirstBad bytes j = BadFrom bytes mostCommands 0 j

@@ -1,4 +1,4 @@
--- What a first look at a batch finds: how many commands it has, or where the first bad one begins. This page serves RULES 7.
+-- What a first look at a batch finds: how many commands it has, or the byte at which it goes wrong. This page serves RULES 7.
 use Prim.Native.Nat.{ℕ}
 use lib.ListN.{length}
 use Rattle.encoding.specs.Batch.{Batch, commands, badAt}

@@ -17,7 +17,7 @@ pub fn command_at(bytes: &[u8], at: usize) -> Reading
     ensures { λ r. ⌜ r ≡ commandAt (now (bytes .entry)) at ⌝ }
 {
     match number(bytes, at) {
-        Number::Wrong(place) => Reading::Fault(place),
+        Number::Wrong(in_operation) => Reading::Fault(in_operation),
         Number::Read(n, next) => {
             let Which::Known(operation) = Operation::named(n) else {
                 return Reading::Fault(at);
@@ -32,7 +32,7 @@ fn arguments_at(bytes: &[u8], operation: Operation, next: usize) -> Reading
     ensures { λ r. ⌜ r ≡ argumentsAt (now (bytes .entry)) operation next ⌝ }
 {
     match number(bytes, next) {
-        Number::Wrong(place) => Reading::Fault(place),
+        Number::Wrong(in_first) => Reading::Fault(in_first),
         Number::Read(first, end) => {
             if operation.arguments() == 1 {
                 Reading::Next(
@@ -54,7 +54,7 @@ fn last_argument(bytes: &[u8], operation: Operation, first: u32, next: usize) ->
     ensures { λ r. ⌜ r ≡ lastArgument operation first (number (now (bytes .entry)) next) ⌝ }
 {
     match number(bytes, next) {
-        Number::Wrong(place) => Reading::Fault(place),
+        Number::Wrong(in_second) => Reading::Fault(in_second),
         Number::Read(second, end) => Reading::Next(
             Command {
                 operation,
@@ -66,13 +66,13 @@ fn last_argument(bytes: &[u8], operation: Operation, first: u32, next: usize) ->
     }
 }
 
-// A whole batch: how many commands it has, or where the first bad one begins.
+// A whole batch: how many commands it has, or the byte at which it goes wrong.
 pub enum Scanned {
     Commands(usize),
     BadAt(usize),
 }
 
-// The 257th command is bad wherever its own faults are.
+// 02 (ii): "a 257th command, which counts before any fault inside it".
 pub fn scan(bytes: &[u8]) -> Scanned
     ensures { λ r. ⌜ r ≡ scanned (readBatch (now (bytes .entry))) ⌝ }
 {
@@ -83,7 +83,7 @@ pub fn scan(bytes: &[u8]) -> Scanned
             return Scanned::BadAt(at);
         }
         match command_at(bytes, at) {
-            Reading::Fault(_fault) => return Scanned::BadAt(at),
+            Reading::Fault(place) => return Scanned::BadAt(place),
             Reading::Next(_, next) => {
                 count = count + 1;
                 at = next;

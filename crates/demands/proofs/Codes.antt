@@ -1,39 +1,33 @@
 -- Demand 1 for the commands of a call, on its answer words: the code word of each command is n exactly when 01's cause for n is the first
 -- that is there, in the pool that the commands before it left, and 0 exactly when none is (`command-code`); its number word is 01's
 -- (`command-number`), of which there is one (`command-number-once`). That pool is what a call with the bytes of those commands alone
--- leaves (`pool-before`; and of a whole call `pool-after`). And the place of code 3: the number is j exactly when good commands stand
--- before j and there the first bad one begins (`bad-call`).
+-- leaves (`pool-before`; and of a whole call `pool-after`).
 -- Why: the words are the State's answer (`command-words`), and crate encoding says what that is, over all operations. Assumes nothing.
-use mathlib.Core.Path.{_≡_, refl, ap, sym, _∙_}
+use mathlib.Core.Path.{_≡_, ap, sym, _∙_}
 use mathlib.Core.Logic.{_↔_}
-use mathlib.Core.Bool.{true}
 use mathlib.Core.List.{List, [], _∷_, _++_}
 use lib.ListN.{length, getD, length-append}
 use native.Mathlib.Omega.{arith}
 use Prim.Native.Nat.{ℕ, _+_, _*_, _≤_}
 use Rattle.tree.specs.State.{State, Sound}
-use Rattle.tree.specs.Codes.{codeOf, numberOf}
-use Rattle.format.specs.Words.{lengthGood, wordsOf}
 use Rattle.format.specs.Audit.{stateOf}
 use Rattle.format.proofs.AuditCases.{Words32}
 use Rattle.format.proofs.Rules.{show-rules}
 use Rattle.format.proofs.Shown.{shows-words}
 use Rattle.encoding.specs.declared.Command.{Command}
 use Rattle.encoding.specs.Numbers.{Bytes}
-use Rattle.encoding.specs.Batch.{commands, badAt, readBatch, perform, runAll, Call, called, refused, batch}
-use Rattle.commands.specs.Faults.{FirstBad}
+use Rattle.encoding.specs.Batch.{commands, readBatch, perform, runAll, Call, called, batch}
 use Rattle.encoding.specs.Causes.{FirstCause, Numbered}
-use Rattle.encoding.proofs.Endings.{bad-ends, ran-ends}
+use Rattle.encoding.proofs.Endings.{ran-ends}
 use Rattle.encoding.proofs.Performs.{AllSmall, perform-sound, run-sound, small-append}
 use Rattle.encoding.proofs.AnswerWords.{run-append}
 use Rattle.encoding.proofs.Causes.{answered, code-exactly, numbered-once}
 use Rattle.commands.specs.Written.{batchBytes}
-use Rattle.commands.proofs.Faults.{bad-exactly}
 use Rattle.commands.proofs.Written.{front-read}
 use Rattle.set.specs.Set.{Passing}
 use Rattle.demands.specs.Calls.{poolAfter}
 use Rattle.demands.proofs.Called.{call-ran}
-use Rattle.demands.proofs.Ends.{code-0, code-3, call-number, ran-passing, command-words}
+use Rattle.demands.proofs.Ends.{code-0, ran-passing, command-words}
 
 -- the State of the pool that commands leave
 after-state : (cs : List Command) (p : List ℕ) → Sound (runAll cs (stateOf p)) → stateOf (poolAfter cs p) ≡ runAll cs (stateOf p)
@@ -99,16 +93,3 @@ module _ (p bytes out : List ℕ) (words : Words32 p) (b : Bytes bytes) (given :
         → numberWord ≡ n
     command-number-once n m =
         numbered-once (rw (after-state before p sound) sound) (rw (after-state (before ++ (c ∷ [])) p sound-after) sound-after) command-number m
-
--- Code 3, with its place.
-pub bad-call : (p bytes out : List ℕ) (j : ℕ) → (((batch p bytes out) .code ≡ 3) × ((batch p bytes out) .number ≡ j)) ↔ ((lengthGood p ≡ true) × FirstBad bytes j)
-unfolding refused
-bad-call p bytes out j = (
-  λ h.
-      let c = code-3 p bytes out .0 (h .0) in
-      let at = call-number p bytes out .place (h .0) in
-      (c .0, bad-exactly bytes j .0 (rw (h .1) at at)),
-  λ h.
-      let e = bad-ends p bytes out (h .0) (bad-exactly bytes j .1 (h .1)) in
-      (ap (λ (r : Call). r .code) e, ap (λ (r : Call). r .number) e),
-)

@@ -1,7 +1,7 @@
 -- Demand 1, as a reader's summary of the batch definition.
 -- A call's code is n exactly when 01's cause for n is there (`code-exactly`, and code by code `code-0` to `code-4`), so it is one of 0
--- to 4; a call that is refused whole changes no word of the pool or the answers (`refused-keeps`), and its number is 0, or the place of
--- the bad command (`call-number`). Each command of a call that is not refused fills its own two answer words (`command-words`), and
+-- to 4; a call that is refused whole changes no word of the pool or the answers (`refused-keeps`), and its number is 0, or the byte
+-- at which the batch goes wrong (`call-number`). Each command of a call that is not refused fills its own two answer words (`command-words`), and
 -- later words stay (`later-words`); a refused command changes no pool word (`refused-command`; Striking.antt says that the others run and
 -- answer as without it). Before the call and after it the pool passes the audit (`ran-passing`, `passes-after`).
 -- Why: the definition asks for the causes in the order 1, 3, 4, 2, and each refusal gives back what it was lent; a command refused
@@ -96,7 +96,7 @@ module _ (p bytes out : List ℕ) where
       go (rules-refused l e h r) n = (refl, refl)
       go (ran l e h r) n = absurd (n refl)
 
-  -- Code 3's number is the "byte, counted from 0, where the first such command begins"; every other code's is 0.
+  -- Code 3's number is the byte at which the batch goes wrong; every other code's is 0.
   pub record CallNumber (r : Call) : Type 0 where
     pub place : r .code ≡ 3 → readBatch bytes ≡ badAt (r .number)
     pub none : r .code ≢ 3 → r .number ≡ 0

@@ -19,12 +19,12 @@ use Rattle.encoding.specs.Batch.{Batch, commands, badAt, readBatch, Call
 
 -- How a call ends: 01's causes in their order.
 pub data Ending (p bytes out : List ℕ) : Call → Type 0 where
-  length-refused : lengthGood p ≡ false → Ending p bytes out (refused PoolLength 0 p out)
-  bad-command : {i : ℕ} → lengthGood p ≡ true → readBatch bytes ≡ badAt i → Ending p bytes out (refused BadCommand i p out)
+  length-refused : lengthGood p ≡ false → Ending p bytes out (refused PoolLength p out)
+  bad-command : {i : ℕ} → lengthGood p ≡ true → readBatch bytes ≡ badAt i → Ending p bytes out (refused (BadCommand i) p out)
   few-answers : {cs : List Command} → lengthGood p ≡ true → readBatch bytes ≡ commands cs → length out < 2 * length cs
-      → Ending p bytes out (refused FewAnswers 0 p out)
+      → Ending p bytes out (refused FewAnswers p out)
   rules-refused : {cs : List Command} → lengthGood p ≡ true → readBatch bytes ≡ commands cs → 2 * length cs ≤ length out → rulesHold p ≡ false
-      → Ending p bytes out (refused RulesBroken 0 p out)
+      → Ending p bytes out (refused RulesBroken p out)
   ran : {cs : List Command} → lengthGood p ≡ true → readBatch bytes ≡ commands cs → 2 * length cs ≤ length out → rulesHold p ≡ true
       → Ending p bytes out (called cs p out)
 
@@ -40,7 +40,7 @@ module _ (p bytes out : List ℕ) where
       go (badAt i) e = bad-command l e
       go (commands cs) e = enough (ltb (length out) (2 * length cs)) refl
         where
-          enough : (a : Bool) → ltb (length out) (2 * length cs) ≡ a → Ending p bytes out (elim a [ true ↦ refused FewAnswers 0 p out | false ↦ rest cs ])
+          enough : (a : Bool) → ltb (length out) (2 * length cs) ≡ a → Ending p bytes out (elim a [ true ↦ refused FewAnswers p out | false ↦ rest cs ])
           enough true h = few-answers l e (ltb-true _ _ h)
           enough false h = f cs e (ltb-false _ _ h)
 
@@ -49,8 +49,8 @@ module _ (p bytes out : List ℕ) where
   ending = go (audited-case p)
     where
       go : {a : Audited} → Case p a → Ending p bytes out (elim a [
-        | Length ↦ refused PoolLength 0 p out
-        | Broken ↦ batchRead (readBatch bytes) p out (λ cs. refused RulesBroken 0 p out)
+        | Length ↦ refused PoolLength p out
+        | Broken ↦ batchRead (readBatch bytes) p out (λ cs. refused RulesBroken p out)
         | Passed h l ↦ batchRead (readBatch bytes) p out (λ cs. called cs p out)
       ])
       go (wrong-length h) = length-refused h
@@ -58,7 +58,7 @@ module _ (p bytes out : List ℕ) where
       go (rules-kept h f) = read-ending h _ (λ cs e r. ran h e r f)
 
   -- The other way round.
-  pub length-ends : lengthGood p ≡ false → batch p bytes out ≡ refused PoolLength 0 p out
+  pub length-ends : lengthGood p ≡ false → batch p bytes out ≡ refused PoolLength p out
   unfolding batch
   length-ends h = rw (audited-length p h, batch)
 
@@ -69,20 +69,20 @@ module _ (p bytes out : List ℕ) where
     where
       go : {a : Audited} → Case p a → audited p ≡ a → (rest : List Command → Call) × (batch p bytes out ≡ batchRead (readBatch bytes) p out rest)
       go (wrong-length h) e = absurd (false≢true (sym h ∙ l))
-      go (rules-broken h f) e = ((λ cs. refused RulesBroken 0 p out), rw (e, batch))
+      go (rules-broken h f) e = ((λ cs. refused RulesBroken p out), rw (e, batch))
       go (rules-kept h f) e = ((λ cs. called cs p out), rw (e, batch))
 
   module _ (l : lengthGood p ≡ true) where
-    pub bad-ends : {i : ℕ} → readBatch bytes ≡ badAt i → batch p bytes out ≡ refused BadCommand i p out
+    pub bad-ends : {i : ℕ} → readBatch bytes ≡ badAt i → batch p bytes out ≡ refused (BadCommand i) p out
     unfolding batchRead
     bad-ends e = beyond l .1 ∙ rw (e, batchRead)
 
     module _ {cs : List Command} (e : readBatch bytes ≡ commands cs) where
-      pub few-ends : length out < 2 * length cs → batch p bytes out ≡ refused FewAnswers 0 p out
+      pub few-ends : length out < 2 * length cs → batch p bytes out ≡ refused FewAnswers p out
       unfolding batchRead
       few-ends h = beyond l .1 ∙ rw (e, lt-ltb _ _ h, batchRead)
 
-      pub broken-ends : 2 * length cs ≤ length out → rulesHold p ≡ false → batch p bytes out ≡ refused RulesBroken 0 p out
+      pub broken-ends : 2 * length cs ≤ length out → rulesHold p ≡ false → batch p bytes out ≡ refused RulesBroken p out
       unfolding batch batchRead
       broken-ends h r = rw (audited-broken p l r, batch, e, le-ltb _ _ h, batchRead)
 

@@ -8,6 +8,7 @@ use Rattle.tree.specs.declared.Answer.{Answer}
 use Rattle.tree.specs.declared.Answer.the-variants.{Done, Refused, Spent}
 use Rattle.tree.specs.Codes.{codeOf, numberOf}
 use Rattle.tree.specs.State.{State, keyEnd, Sound, Outcome}
+use Rattle.tree.proofs.KindNumbers.{no-number}
 use Rattle.tree.proofs.Updated.{search-sound, search-kept, insert-sound, insert-kept, delete-sound, delete-kept}
 use Rattle.tree.proofs.StepState.{StepCase, refused as step-refused, taken as step-taken, stepping, step-sound-state}
 use Rattle.tree.proofs.Settling.{settle-sound-state}
@@ -54,7 +55,7 @@ perform-kept c S g l h = operation-kept (c .operation) (c .first) (c .second) S 
 -- .. and its number is 0.
 pub refused-number : (a : Answer) → 5 ≤ codeOf a → codeOf a ≤ 11 → numberOf a ≡ 0
 refused-number (Done n) l h = absurd (omega arith)
-refused-number (Refused f) l h = refl
+refused-number (Refused f) l h = no-number f (λ e. omega arith) (λ e. omega arith)
 refused-number (Spent n) l h = absurd (omega arith)
 
 -- arguments are "at most 4,294,967,295"

@@ -1,7 +1,6 @@
 -- Document 01, The batch: commands and their reading (RULES 7), a call's refusals in order, and what a call leaves in the pool and the
 -- answers (RULES 8, 9).
-use mathlib.Core.Path.{_≡_}
-use mathlib.Core.Bool.{Bool, true, false, not}
+use mathlib.Core.Bool.{true, false, not}
 use mathlib.Core.List.{List, [], _∷_, _++_}
 use lib.Dec.{eqb, leb, ltb}
 use lib.ListN.{length, drop}
@@ -23,7 +22,7 @@ use Rattle.encoding.specs.Numbers.{number}
 use Rattle.tree.specs.declared.Refusal.{Refusal}
 use Rattle.tree.specs.declared.Refusal.the-variants.{PoolLength, RulesBroken, BadCommand, FewAnswers}
 use Rattle.tree.specs.declared.Answer.{Answer}
-use Rattle.tree.specs.Codes.{code, codeOf, numberOf}
+use Rattle.tree.specs.Codes.{code, numberBeside, codeOf, numberOf}
 use Rattle.tree.specs.State.{State, Outcome, search, insert, delete, step}
 use Rattle.tree.specs.Settle.{settle}
 
@@ -65,7 +64,7 @@ operationAt bytes i (Wrong j) = Fault j
 unfoldable pub commandAt : List ℕ → ℕ → Reading
 commandAt bytes i = operationAt bytes i (number bytes i)
 
--- a batch read whole: its commands, or where the first bad one begins
+-- a batch read whole: its commands, or the byte at which it goes wrong
 pub data Batch : Type 0 where
   commands : List Command → Batch
   badAt : ℕ → Batch
@@ -75,12 +74,13 @@ after c (commands cs) = commands (c ∷ cs)
 after c (badAt i) = badAt i
 
 -- RULES 7.6: the commands from place i on, at most n. Code 3: "a command is unknown, cut short, not in shortest form, too large, or the
--- 257th", with the "byte, counted from 0, where the first such command begins".
+-- 257th", by 02 (ii) with "the byte at which a number goes wrong"; "an unknown operation number gives the byte where its number begins, as
+-- does a 257th command, which counts before any fault inside it".
 unfoldable pub readFrom : ℕ → List ℕ → ℕ → Batch
 readFrom zero bytes i = elim (leb (length bytes) i) [ true ↦ commands [] | false ↦ badAt i ]
 readFrom (suc n) bytes i = elim (leb (length bytes) i) [
   | true ↦ commands []
-  | false ↦ elim (commandAt bytes i) [ Next c next ↦ after c (readFrom n bytes next) | Fault j ↦ badAt i ]
+  | false ↦ elim (commandAt bytes i) [ Next c next ↦ after c (readFrom n bytes next) | Fault j ↦ badAt j ]
 ]
 
 unfoldable pub readBatch : List ℕ → Batch
@@ -128,18 +128,18 @@ called cs p out =
     record { code = 0; number = 0; pool = wordsOf (runAll cs S); answers = filled (answersOf cs S) out }
 
 -- RULES 8.1: "Codes 1 to 4 refuse the call, in the order 1, 3, 4, 2, and change no word."
-unfoldable pub refused : Refusal → ℕ → List ℕ → List ℕ → Call
-refused f n p out = record { code = code f; number = n; pool = p; answers = out }
+unfoldable pub refused : Refusal → List ℕ → List ℕ → Call
+refused f p out = record { code = code f; number = numberBeside f; pool = p; answers = out }
 
 -- 3, then 4 (RULES 9.3 and 9.4); where neither is there, `rest` of the commands.
 unfoldable pub batchRead : Batch → List ℕ → List ℕ → (List Command → Call) → Call
-batchRead (badAt i) p out rest = refused BadCommand i p out
-batchRead (commands cs) p out rest = elim (ltb (length out) (2 * length cs)) [ true ↦ refused FewAnswers 0 p out | false ↦ rest cs ]
+batchRead (badAt i) p out rest = refused (BadCommand i) p out
+batchRead (commands cs) p out rest = elim (ltb (length out) (2 * length cs)) [ true ↦ refused FewAnswers p out | false ↦ rest cs ]
 
 -- The audit says 1 before them and 2 after them (RULES 9.1 and 9.2).
 unfoldable pub batch : List ℕ → List ℕ → List ℕ → Call
 batch p bytes out = elim (audited p) [
-  | Length ↦ refused PoolLength 0 p out
-  | Broken ↦ batchRead (readBatch bytes) p out (λ cs. refused RulesBroken 0 p out)
+  | Length ↦ refused PoolLength p out
+  | Broken ↦ batchRead (readBatch bytes) p out (λ cs. refused RulesBroken p out)
   | Passed h l ↦ batchRead (readBatch bytes) p out (λ cs. called cs p out)
 ]

@@ -19,8 +19,8 @@ below d (Wrong i) = Wrong i
 
 -- RULES 7.1: "Numbers are seven-bit groups, lowest first, top bit set when more follow. Only the shortest form, at most 4,294,967,295."
 -- The number whose groups begin at place i; `more` groups may follow the one there. The fifth group is a last one of at most
--- 15, or the number is too large. Where it goes wrong (RULES 7.2): the fifth byte if above 0F, the end of the input if cut
--- short, the last byte if not in shortest form.
+-- 15, or the number is too large. Where it goes wrong (RULES 7.2), by 02 (ii): "the fifth if that byte is above 0F, else the end of the input if cut
+-- short, else the last byte if not in shortest form".
 unfoldable pub groups : ℕ → Bool → List ℕ → ℕ → Number
 groups zero first bytes i = elim (leb (length bytes) i) [
   | true ↦ Wrong (length bytes)

@@ -1,6 +1,6 @@
 -- What is printed, for every input: the prepared pool passes the audit and the answer words are enough for any batch, so a batch that
--- reads gets the lines of its commands' answers from an empty State of 127 slots, and one that does not gets one line, code 3 and the
--- place (`printed-shown`). Assumes nothing.
+-- reads gets the lines of its commands' answers from an empty State of 127 slots, and one that does not gets one line, code 3 and the byte
+-- at which it goes wrong (`printed-shown`, `printed-bad`). Assumes nothing.
 use mathlib.Core.Path.{_≡_, refl, sym, ap, _∙_}
 use mathlib.Core.Bool.{true}
 use mathlib.Core.List.{List, [], _∷_, _++_, append-assoc, append-nil}
@@ -19,6 +19,8 @@ use Rattle.encoding.specs.declared.Command.{Command}
 use Rattle.encoding.specs.Batch.{Batch, commands, badAt, readBatch, answersOf, answerWords, filled, called, refused, batch}
 use Rattle.encoding.proofs.Endings.{bad-ends, ran-ends}
 use Rattle.encoding.proofs.AnswerWords.{answers-length}
+use Rattle.commands.specs.Faults.{FirstBad}
+use Rattle.commands.proofs.Faults.{bad-exactly}
 use Rattle.commands.proofs.Running.{batch-size}
 use Rattle.lines.specs.Printed.{line, refusedLine, lines, howMany, programSlots, programCall, printedOf, printed}
 
@@ -74,3 +76,8 @@ printed-shown bytes = go (readBatch bytes) refl
     go (commands cs) e =
         ran-lines (wordsOf (prepared programSlots)) (passes .0) (passes .1) (passes .2) bytes (replicate 512 0) e (omega (arith, batch-size bytes e .0, length-replicate {A = ℕ} 512 0))
     go (badAt i) e = refused-lines (wordsOf (prepared programSlots)) (passes .0) (passes .1) (passes .2) bytes (replicate 512 0) 0 e
+
+-- 02 (ii): "Code 3's number becomes that place in the batch call and in the program's line."
+pub printed-bad : (bytes : List ℕ) {j : ℕ} → FirstBad bytes j → printed bytes ≡ refusedLine 3 j
+unfolding shown
+printed-bad bytes {j} f = printed-shown bytes ∙ rw (bad-exactly bytes j .1 f)

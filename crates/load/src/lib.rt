@@ -22,14 +22,16 @@ ghost use lib.ListN.{length};
 ghost use Prim.Native.Nat.{_+_, _-_, _^_, _≤_, _<_, min};
 ghost use Rattle.tree.specs.State.{upwards};
 ghost use Rattle.format.specs.Words.{headOf};
-ghost use Rattle.saved.specs.Loaded.{isCount};
-ghost use Rattle.saved.specs.Calls.{loadCall};
+ghost use Rattle.saved.specs.Loaded.{numbersAt, isCount, placeIn, badPlace};
+ghost use Rattle.saved.specs.Calls.{placeWord, loadCall};
 ghost use Rattle.pool.specs.declared.Walk.the-variants.{Bad};
 ghost use Rattle.load.specs.Judging.{JudgeSays, TopSays, WholeSays};
 ghost use Rattle.load.specs.Building.{Buildable, BuildSays, TopBuildable, TopBuildSays, AllBuildSays, putUp};
 
 // "twice the weight, plus 1 for an inner node"
 const TWICE: u32 = 2;
+
+const LAST_WORD: u32 = 4294967295;
 
 // What is found of a tree in the bytes: what a walk over a pool's tree would find, and the place after its numbers.
 struct Judged {
@@ -164,6 +166,49 @@ fn judge_all(bytes: &[u8]) -> Said
     Said::Set(c, n, at)
 }
 
+// The byte at which one of the `count` numbers from place `at` on goes wrong, the first that does; the count of bytes if all read.
+fn first_wrong(bytes: &[u8], at: usize, count: u64) -> usize
+    ensures { λ r. ⌜ r ≡ placeIn (length (now (bytes .entry))) (numbersAt count (now (bytes .entry)) at) ⌝ }
+{
+    let mut left = count;
+    let mut i = at;
+    while 0 < left {
+        match number(bytes, i) {
+            Number::Wrong(place) => return place,
+            Number::Read(_, next) => {
+                left -= 1;
+                i = next;
+            }
+        }
+    }
+    bytes.len()
+}
+
+// 02 (ii): "the place of the first bad number, and the count of saved bytes where every number reads". It is looked for in bytes that are refused,
+// and in no others.
+fn bad_place(bytes: &[u8]) -> usize
+    ensures { λ r. ⌜ r ≡ badPlace (now (bytes .entry)) ⌝ }
+{
+    match number(bytes, 0) {
+        Number::Wrong(place) => place,
+        Number::Read(_, i) => match number(bytes, i) {
+            Number::Wrong(place) => place,
+            Number::Read(n, at) => first_wrong(bytes, at, 2 * n as u64),
+        },
+    }
+}
+
+// The place as a word: past 32 bits it is the last one.
+fn place_word(place: usize) -> u32
+    ensures { λ r. ⌜ r ≡ placeWord place ⌝ }
+{
+    if place < LAST_WORD as usize {
+        place as u32
+    } else {
+        LAST_WORD
+    }
+}
+
 // Where the next number and the next slot are.
 struct Place {
     at: usize,
@@ -273,7 +318,8 @@ pub fn load(pool: &mut [u32], bytes: &[u8]) -> Answer
         return Answer::Refused(Refusal::PoolLength);
     }
     let Said::Set(c, n, at) = judge_all(bytes) else {
-        return Answer::Refused(Refusal::BadSaved);
+        let byte = place_word(bad_place(bytes));
+        return Answer::Refused(Refusal::BadSaved(byte));
     };
     if c != last_slot(pool) {
         return Answer::Refused(Refusal::NoFit);

@@ -4,4 +4,5 @@ pub mod Took
 pub mod Shortest
 pub mod Putting
 pub mod Faults
+pub mod Local
 pub mod Decides

@@ -60,13 +60,13 @@ fn further(bytes: &[u8], from: usize, low: u32) -> Number
         return Number::Wrong(bytes.len());
     }
     let fifth = bytes[i] as u32;
-    if MOST_FIFTH < fifth {
-        return Number::Wrong(i);
-    }
     if fifth == 0 {
         return Number::Wrong(i);
     }
-    Number::Read(value + unit * fifth, i + 1)
+    if fifth <= MOST_FIFTH {
+        return Number::Read(value + unit * fifth, i + 1);
+    }
+    Number::Wrong(i)
 }
 
 // From here on a number takes two bytes, three, four, five.

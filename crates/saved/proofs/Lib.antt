@@ -6,6 +6,7 @@ pub mod States
 pub mod Lengths
 pub mod There
 pub mod Saves
+pub mod Places
 pub mod Figures
 pub mod Worked
 pub mod Restarts

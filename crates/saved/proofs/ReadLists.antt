@@ -1,5 +1,6 @@
 -- Numbers in bytes. The bytes of a list of numbers read as the list, whatever stands around them (`reads-bytes`); what reads as a list is its
--- bytes (`reads-there`); and the reader's definition reads exactly these (`reads-at`, `at-reads`). Assumes nothing.
+-- bytes (`reads-there`); and the reader's definition reads exactly these, or gives the byte at which the first bad one goes wrong (`reads-at`,
+-- `reads-wrong`, `at-says`). Assumes nothing.
 use mathlib.Core.Path.{_≡_, refl, ap, sym, _∙_}
 use mathlib.Core.List.{List, [], _∷_, _++_, append-assoc}
 use Prim.Native.Nat.{ℕ, zero, suc, _+_, _-_, _^_, _<_}
@@ -12,12 +13,8 @@ use Rattle.encoding.specs.Numbers.{Bytes, number}
 use Rattle.numbers.specs.Shortest.{bytesOf}
 use Rattle.numbers.proofs.Shortest.{number-reads, number-place, number-shortest}
 use Rattle.saved.specs.Saved.{bytesOfAll}
-use Rattle.saved.specs.Loaded.{Numbers, numbers, unread, before, numbersAt}
-
--- the numbers vs stand from place i up to place j
-pub data Reads (bytes : List ℕ) : ℕ → List ℕ → ℕ → Type 0 where
-  reads-none : {i : ℕ} → Reads bytes i [] i
-  reads-more : {i m j v : ℕ} {vs : List ℕ} → number bytes i ≡ Read v m → Reads bytes m vs j → Reads bytes i (v ∷ vs) j
+use Rattle.saved.specs.Loaded.{Numbers, numbers, misread, before, numbersAt}
+use Rattle.saved.specs.Misread.{Reads, reads-none, reads-more}
 
 module _ {bytes : List ℕ} where
   pub reads-append : {i m j : ℕ} {vs us : List ℕ} → Reads bytes i vs m → Reads bytes m us j → Reads bytes i (vs ++ us) j
@@ -30,11 +27,11 @@ module _ {bytes : List ℕ} where
 
 -- The reader's definition, one number more, by cases.
 module _ (n : ℕ) (bytes : List ℕ) (i : ℕ) where
-  at-more : {v next : ℕ} → number bytes i ≡ Read v next → numbersAt (suc n) bytes i ≡ before v (numbersAt n bytes next)
+  pub at-more : {v next : ℕ} → number bytes i ≡ Read v next → numbersAt (suc n) bytes i ≡ before v (numbersAt n bytes next)
   unfolding numbersAt
   at-more e = rw (e, numbersAt)
 
-  at-wrong : {j : ℕ} → number bytes i ≡ Wrong j → numbersAt (suc n) bytes i ≡ unread
+  pub at-wrong : {j : ℕ} → number bytes i ≡ Wrong j → numbersAt (suc n) bytes i ≡ misread j
   unfolding numbersAt
   at-wrong e = rw (e, numbersAt)
 
@@ -43,25 +40,30 @@ unfolding numbersAt before
 reads-at reads-none = refl
 reads-at {bytes} {i = i} (reads-more {v = v} {vs = vs} e r) = at-more (length vs) bytes i e ∙ ap (before v) (reads-at r)
 
-abbrev AtSays : List ℕ → ℕ → Numbers → Type 0
-AtSays bytes i unread = Unit {0}
-AtSays bytes i (numbers vs j) = Reads bytes i vs j
+-- .. and after some that read, fewer than n, one goes wrong.
+pub reads-wrong : {bytes vs : List ℕ} {i k j : ℕ} (n : ℕ) → Reads bytes i vs k → length vs < n → number bytes k ≡ Wrong j → numbersAt n bytes i ≡ misread j
+unfolding before
+reads-wrong zero r l w = absurd (omega arith)
+reads-wrong {bytes} {i = i} (suc n) reads-none l w = at-wrong n bytes i w
+reads-wrong {bytes} {i = i} (suc n) (reads-more {v = v} e r) l w = at-more n bytes i e ∙ ap (before v) (reads-wrong n r (omega arith) w)
 
-at-says : (bytes : List ℕ) (n i : ℕ) → AtSays bytes i (numbersAt n bytes i)
+-- What the reader reads of n numbers: all of them; or some, fewer than n, and then one that goes wrong.
+abbrev pub AtSays : List ℕ → ℕ → ℕ → Numbers → Type 0
+AtSays bytes n i (misread j) = (vs : List ℕ) × (k : ℕ) × Reads bytes i vs k × (length vs < n) × (number bytes k ≡ Wrong j)
+AtSays bytes n i (numbers vs j) = Reads bytes i vs j × (length vs ≡ n)
+
+pub at-says : (bytes : List ℕ) (n i : ℕ) → AtSays bytes n i (numbersAt n bytes i)
 unfolding numbersAt before
-at-says bytes zero i = reads-none
+at-says bytes zero i = (reads-none, refl)
 at-says bytes (suc n) i = go (number bytes i) refl (at-says bytes n)
   where
-    one-more : (v m : ℕ) → number bytes i ≡ Read v m → (x : Numbers) → AtSays bytes m x → AtSays bytes i (before v x)
-    one-more v m e unread h = tt
-    one-more v m e (numbers vs j) h = reads-more e h
+    one-more : (v m : ℕ) → number bytes i ≡ Read v m → (x : Numbers) → AtSays bytes n m x → AtSays bytes (suc n) i (before v x)
+    one-more v m e (misread j) h = (v ∷ h .0, h .1, reads-more e (h .2), omega (arith, h .3), h .4)
+    one-more v m e (numbers vs j) h = (reads-more e (h .0), omega (arith, h .1))
 
-    go : (x : Number) → number bytes i ≡ x → ((k : ℕ) → AtSays bytes k (numbersAt n bytes k)) → AtSays bytes i (numbersAt (suc n) bytes i)
+    go : (x : Number) → number bytes i ≡ x → ((k : ℕ) → AtSays bytes n k (numbersAt n bytes k)) → AtSays bytes (suc n) i (numbersAt (suc n) bytes i)
     go (Read v m) e f = rw (at-more n bytes i e) (one-more v m e (numbersAt n bytes m) (f m))
-    go (Wrong j) e f = rw (at-wrong n bytes i e) tt
-
-pub at-reads : (bytes : List ℕ) (n i : ℕ) {vs : List ℕ} {j : ℕ} → numbersAt n bytes i ≡ numbers vs j → Reads bytes i vs j
-at-reads bytes n i e = rw e at (at-says bytes n i)
+    go (Wrong j) e f = rw (at-wrong n bytes i e) ([], i, reads-none, omega arith, e)
 
 -- numbers that 32 bits hold
 pub data Small : List ℕ → Type 0 where

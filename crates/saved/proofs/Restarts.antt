@@ -1,6 +1,6 @@
 -- Request (i) over its two calls, for any words, bytes and room. Each code is given exactly for its cause, and a refused call leaves all as
--- it was (`save-codes`, `load-codes`, `save-refused`, `load-refused`). Load after save gives the State renumbered, whatever words the pool
--- held (`load-after-save`); save after that gives the same bytes (`save-again`); what load leaves passes the audit (`load-says`); load takes
+-- it was (`save-codes`, `load-codes`, `save-refused`, `load-refused`); 13 gives the byte at which the bytes go wrong (`load-place`). Load
+-- after save gives the State renumbered, whatever words the pool held (`load-after-save`); save after that gives the same bytes (`save-again`); what load leaves passes the audit (`load-says`); load takes
 -- exactly the bytes that save leaves (`load-takes`); two pools save to the same bytes exactly when they are alike (`save-same`); and the bytes
 -- are few (`save-few`). Assumes nothing.
 use mathlib.Core.Path.{_≡_, refl, ap, sym, _∙_}
@@ -28,11 +28,13 @@ use Rattle.format.proofs.Rules.{rules-show, show-rules}
 use Rattle.format.proofs.AuditCases.{Words32}
 use Rattle.encoding.specs.Numbers.{Bytes}
 use Rattle.saved.specs.Saved.{savedBytes, renumberedTop, withRest, renumberedState, AlikeTop}
-use Rattle.saved.specs.Loaded.{loaded}
-use Rattle.saved.specs.Calls.{Call, gives, refuses, saveInto, saveCall, loadState, loadCall}
+use Rattle.saved.specs.Loaded.{loaded, badPlace}
+use Rattle.saved.specs.Misread.{Unwritten, MisreadAt}
+use Rattle.saved.specs.Calls.{Call, placeWord, gives, refuses, saveInto, saveCall, loadState, loadCall}
 use Rattle.saved.proofs.Alike.{top-nodes}
 use Rattle.saved.proofs.States.{size-pos}
 use Rattle.saved.proofs.Lengths.{saved-length}
+use Rattle.saved.proofs.Places.{place-there, place-exactly}
 use Rattle.saved.proofs.Saves.{loaded-saved, loaded-stored, Stored, refused-exactly, renumbered-saved, renumbered-sound, renumbered-keeps, renumbered-slots, same-bytes}
 
 pub slots-are : (p : List ℕ) → (stateOf p) .slots ≡ slotsIn p
@@ -72,9 +74,9 @@ module _ (p bytes : List ℕ) where
   load-length h = rw (h, loadCall)
 
   module _ (long : lengthGood p ≡ true) where
-    pub load-bad : loaded bytes ≡ none → loadCall p bytes ≡ refuses BadSaved p
+    pub load-bad : {j : ℕ} → loaded bytes ≡ none → j ≡ placeWord (badPlace bytes) → loadCall p bytes ≡ refuses (BadSaved j) p
     unfolding loadCall loadState
-    load-bad e = rw (long, e, loadCall)
+    load-bad e f = rw (long, e, f, loadCall)
 
     module _ {S : State} (e : loaded bytes ≡ some S) where
       pub load-differs : S .slots ≢ slotsIn p → loadCall p bytes ≡ refuses NoFit p
@@ -107,7 +109,7 @@ save-ends p out = go (lengthGood p) (rulesHold p) (leb (length bytes) (length ou
 
 pub data LoadEnds (p bytes : List ℕ) : Call → Type 0 where
   load-ends-1 : lengthGood p ≡ false → LoadEnds p bytes (refuses PoolLength p)
-  load-ends-13 : lengthGood p ≡ true → ((S : State) → Sound S → savedBytes S ≡ bytes → ⊥) → LoadEnds p bytes (refuses BadSaved p)
+  load-ends-13 : {j : ℕ} → lengthGood p ≡ true → Unwritten bytes → MisreadAt bytes j → LoadEnds p bytes (refuses (BadSaved (placeWord j)) p)
   load-ends-14 : lengthGood p ≡ true → (S : State) → Stored bytes S → S .slots ≢ slotsIn p → LoadEnds p bytes (refuses NoFit p)
   load-ends-0 : lengthGood p ≡ true → (S : State) → Stored bytes S → S .slots ≡ slotsIn p → LoadEnds p bytes (gives (Done (nodes (S .top))) (wordsOf S))
 
@@ -120,10 +122,10 @@ load-ends p bytes b = go (lengthGood p) (loaded bytes) refl refl
 
     go : (a : Bool) (x : Option State) → lengthGood p ≡ a → loaded bytes ≡ x → LoadEnds p bytes (loadCall p bytes)
     go false x e f = rw (load-length p bytes e) (load-ends-1 e)
-    go true none e f = rw (load-bad p bytes e f) (load-ends-13 e (refused-exactly bytes b .0 f))
+    go true none e f = rw (load-bad p bytes e f refl) (load-ends-13 e (refused-exactly bytes b .0 f) (place-there bytes b f))
     go true (some S) e f = fits e S f (eqb (S .slots) (slotsIn p)) refl
 
--- "nothing is written on any of them", and number 0 with each.
+-- "nothing is written on any of them", and number 0 with each, but for 13's.
 pub save-refused : (p out : List ℕ) → codeOf ((saveCall p out) .answer) ≢ 0 → ((saveCall p out) .left ≡ out) × (numberOf ((saveCall p out) .answer) ≡ 0)
 save-refused p out = go (save-ends p out)
   where
@@ -133,14 +135,35 @@ save-refused p out = go (save-ends p out)
     go (save-ends-14 e f g) z = (refl, refl)
     go (save-ends-0 e f g) z = absurd (z refl)
 
-pub load-refused : (p bytes : List ℕ) → Bytes bytes → codeOf ((loadCall p bytes) .answer) ≢ 0 → ((loadCall p bytes) .left ≡ p) × (numberOf ((loadCall p bytes) .answer) ≡ 0)
+pub load-refused : (p bytes : List ℕ) → Bytes bytes → codeOf ((loadCall p bytes) .answer) ≢ 0
+    → ((loadCall p bytes) .left ≡ p) × (codeOf ((loadCall p bytes) .answer) ≢ 13 → numberOf ((loadCall p bytes) .answer) ≡ 0)
 load-refused p bytes b = go (load-ends p bytes b)
   where
-    go : {r : Call} → LoadEnds p bytes r → codeOf (r .answer) ≢ 0 → (r .left ≡ p) × (numberOf (r .answer) ≡ 0)
-    go (load-ends-1 e) z = (refl, refl)
-    go (load-ends-13 e f) z = (refl, refl)
-    go (load-ends-14 e S f g) z = (refl, refl)
+    go : {r : Call} → LoadEnds p bytes r → codeOf (r .answer) ≢ 0 → (r .left ≡ p) × (codeOf (r .answer) ≢ 13 → numberOf (r .answer) ≡ 0)
+    go (load-ends-1 e) z = (refl, λ h. refl)
+    go (load-ends-13 e f g) z = (refl, λ h. absurd (h refl))
+    go (load-ends-14 e S f g) z = (refl, λ h. refl)
     go (load-ends-0 e S f g) z = absurd (z refl)
+
+-- 02 (ii): 13 with its place, both ways.
+pub load-place : (p bytes : List ℕ) → Bytes bytes → (n : ℕ)
+    → ((codeOf ((loadCall p bytes) .answer) ≡ 13) × (numberOf ((loadCall p bytes) .answer) ≡ n))
+    ↔ ((lengthGood p ≡ true) × ((j : ℕ) × MisreadAt bytes j × (placeWord j ≡ n)))
+load-place p bytes b n = (λ h. go (load-ends p bytes b) (h .0) (h .1), back)
+  where
+    go : {r : Call} → LoadEnds p bytes r → codeOf (r .answer) ≡ 13 → numberOf (r .answer) ≡ n
+        → (lengthGood p ≡ true) × ((j : ℕ) × MisreadAt bytes j × (placeWord j ≡ n))
+    go (load-ends-1 e) z h = absurd (omega arith)
+    go (load-ends-13 {j} e f g) z h = (e, (j, g, h))
+    go (load-ends-14 e S f g) z h = absurd (omega arith)
+    go (load-ends-0 e S f g) z h = absurd (omega arith)
+
+    back : (lengthGood p ≡ true) × ((j : ℕ) × MisreadAt bytes j × (placeWord j ≡ n))
+        → (codeOf ((loadCall p bytes) .answer) ≡ 13) × (numberOf ((loadCall p bytes) .answer) ≡ n)
+    back h =
+        let w = place-exactly bytes b (h .1 .0) .1 (h .1 .1) in
+        let e = load-bad p bytes (h .0) (w .0) (sym (ap placeWord (w .1) ∙ h .1 .2)) in
+        (ap (λ (c : Call). codeOf (c .answer)) e, ap (λ (c : Call). numberOf (c .answer)) e)
 
 -- 02 (i)'s codes, each exactly for its cause, in the order 1, 2, 14; and the number beside 0.
 pub record SaveCodes (p out : List ℕ) (r : Call) : Type 0 where
@@ -187,14 +210,14 @@ save-codes p out = record {
 pub record LoadCodes (p bytes : List ℕ) (r : Call) : Type 0 where
   pub done-when : (codeOf (r .answer) ≡ 0) ↔ ((lengthGood p ≡ true) × ((S : State) × Sound S × (savedBytes S ≡ bytes) × (S .slots ≡ slotsIn p)))
   pub length-when : (codeOf (r .answer) ≡ 1) ↔ (lengthGood p ≡ false)
-  pub bytes-when : (codeOf (r .answer) ≡ 13) ↔ ((lengthGood p ≡ true) × ((S : State) → Sound S → savedBytes S ≡ bytes → ⊥))
+  pub bytes-when : (codeOf (r .answer) ≡ 13) ↔ ((lengthGood p ≡ true) × Unwritten bytes)
   pub slots-when : (codeOf (r .answer) ≡ 14) ↔ ((lengthGood p ≡ true) × ((S : State) × Sound S × (savedBytes S ≡ bytes) × (S .slots ≢ slotsIn p)))
 
 pub load-codes : (p bytes : List ℕ) → Bytes bytes → LoadCodes p bytes (loadCall p bytes)
 load-codes p bytes b = record {
   done-when = (done (load-ends p bytes b), λ h. let w = h .1 in ap code (load-done p bytes (h .0) (read (w .0) (w .1) (w .2)) (renumbered-slots (w .0) ∙ w .3)));
   length-when = (wrong (load-ends p bytes b), λ h. ap code (load-length p bytes h));
-  bytes-when = (unwritten (load-ends p bytes b), λ h. ap code (load-bad p bytes (h .0) (refused-exactly bytes b .1 (h .1))));
+  bytes-when = (unwritten (load-ends p bytes b), λ h. ap code (load-bad p bytes (h .0) (refused-exactly bytes b .1 (h .1)) refl));
   slots-when = (other (load-ends p bytes b), λ h. let w = h .1 in ap code (load-differs p bytes (h .0) (read (w .0) (w .1) (w .2)) (λ e. w .3 (sym (renumbered-slots (w .0)) ∙ e))));
 }
   where
@@ -206,25 +229,25 @@ load-codes p bytes b = record {
 
     done : {r : Call} → LoadEnds p bytes r → codeOf (r .answer) ≡ 0 → (lengthGood p ≡ true) × ((S : State) × Sound S × (savedBytes S ≡ bytes) × (S .slots ≡ slotsIn p))
     done (load-ends-1 e) z = absurd (omega arith)
-    done (load-ends-13 e f) z = absurd (omega arith)
+    done (load-ends-13 e f g) z = absurd (omega arith)
     done (load-ends-14 e S f g) z = absurd (omega arith)
     done (load-ends-0 e S f g) z = (e, (S, f .sound, f .written, g))
 
     wrong : {r : Call} → LoadEnds p bytes r → codeOf (r .answer) ≡ 1 → lengthGood p ≡ false
     wrong (load-ends-1 e) z = e
-    wrong (load-ends-13 e f) z = absurd (omega arith)
+    wrong (load-ends-13 e f g) z = absurd (omega arith)
     wrong (load-ends-14 e S f g) z = absurd (omega arith)
     wrong (load-ends-0 e S f g) z = absurd (omega arith)
 
-    unwritten : {r : Call} → LoadEnds p bytes r → codeOf (r .answer) ≡ 13 → (lengthGood p ≡ true) × ((S : State) → Sound S → savedBytes S ≡ bytes → ⊥)
+    unwritten : {r : Call} → LoadEnds p bytes r → codeOf (r .answer) ≡ 13 → (lengthGood p ≡ true) × Unwritten bytes
     unwritten (load-ends-1 e) z = absurd (omega arith)
-    unwritten (load-ends-13 e f) z = (e, f)
+    unwritten (load-ends-13 e f g) z = (e, f)
     unwritten (load-ends-14 e S f g) z = absurd (omega arith)
     unwritten (load-ends-0 e S f g) z = absurd (omega arith)
 
     other : {r : Call} → LoadEnds p bytes r → codeOf (r .answer) ≡ 14 → (lengthGood p ≡ true) × ((S : State) × Sound S × (savedBytes S ≡ bytes) × (S .slots ≢ slotsIn p))
     other (load-ends-1 e) z = absurd (omega arith)
-    other (load-ends-13 e f) z = absurd (omega arith)
+    other (load-ends-13 e f g) z = absurd (omega arith)
     other (load-ends-14 e S f g) z = (e, (S, f .sound, f .written, g))
     other (load-ends-0 e S f g) z = absurd (omega arith)
 
@@ -307,7 +330,7 @@ load-says p bytes n b = go (load-ends p bytes b) refl
   where
     go : {r : Call} → LoadEnds p bytes r → loadCall p bytes ≡ r → r .answer ≡ Done n → Loading p bytes n
     go (load-ends-1 e) q z = absurd (omega (arith, ap codeOf z))
-    go (load-ends-13 e f) q z = absurd (omega (arith, ap codeOf z))
+    go (load-ends-13 e f g) q z = absurd (omega (arith, ap codeOf z))
     go (load-ends-14 e S f g) q z = absurd (omega (arith, ap codeOf z))
     go (load-ends-0 e S f g) q z =
         let left : (loadCall p bytes) .left ≡ wordsOf S = ap (λ (x : Call). x .left) q in

@@ -9,7 +9,7 @@ use mathlib.Core.Option.{Option, none, some}
 use lib.Dec.{eqb}
 use lib.ListN.{length}
 use lib.Seq.{drop-length}
-use Prim.Native.Nat.{ℕ, _+_, _*_}
+use Prim.Native.Nat.{ℕ, _+_, _*_, _<_}
 use native.Mathlib.Omega.{arith}
 use borrow.Author.Tests.{eqb-true, eq-eqb}
 use Rattle.tree.specs.State.{State, Top, empty, full, nodes, GoodTop, Sound}
@@ -18,9 +18,10 @@ use Rattle.encoding.specs.declared.Number.{Number}
 use Rattle.encoding.specs.declared.Number.the-variants.{Read, Wrong}
 use Rattle.encoding.specs.Numbers.{Bytes, number}
 use Rattle.saved.specs.Saved.{topNumbers, savedNumbers, bytesOfAll, savedBytes, renumberedTop, withRest, renumberedState, AlikeTop}
-use Rattle.saved.specs.Loaded.{Numbers, numbers, unread, before, numbersAt, nodeNumbers, countNumbers, numbersIn, isCount, stateFrom, loadedNumbers, loaded}
+use Rattle.saved.specs.Loaded.{Numbers, numbers, misread, before, numbersAt, nodeNumbers, countNumbers, numbersIn, isCount, stateFrom, loadedNumbers, loaded}
 use Rattle.saved.specs.There.{SavedAt}
-use Rattle.saved.proofs.ReadLists.{Reads, reads-more, reads-at, at-reads, reads-bytes, reads-there}
+use Rattle.saved.specs.Misread.{Reads, reads-none, reads-more, asked, Unwritten}
+use Rattle.saved.proofs.ReadLists.{reads-at, AtSays, at-says, reads-bytes, reads-there}
 use Rattle.saved.proofs.Alike.{renumbered-like, top-nodes, top-numbers, alike-back, top-alike}
 use Rattle.saved.proofs.Grown.{numbers-length}
 use Rattle.saved.proofs.States.{state-read, state-from, StateSays, state-says, rest-sound}
@@ -33,29 +34,29 @@ top-count empty = refl
 top-count (full t) = numbers-length 1 t
 
 -- C and N once read, the reader reads 2N + 2 numbers in all.
-in-reads : {bytes vs : List ℕ} {c n j : ℕ} → Reads bytes 0 (c ∷ (n ∷ vs)) j → length vs ≡ 2 * n → numbersIn bytes ≡ numbers (c ∷ (n ∷ vs)) j
+pub in-reads : {bytes vs : List ℕ} {c n j : ℕ} → Reads bytes 0 (c ∷ (n ∷ vs)) j → length vs ≡ 2 * n → numbersIn bytes ≡ numbers (c ∷ (n ∷ vs)) j
 unfolding numbersIn countNumbers nodeNumbers before
 in-reads {bytes} (reads-more e (reads-more f r)) l = rw (e, f, ← l, reads-at r)
 
--- What the reader reads are numbers that stand in the bytes.
-abbrev InSays : List ℕ → Numbers → Type 0
-InSays bytes unread = Unit {0}
-InSays bytes (numbers vs j) = Reads bytes 0 vs j
+-- What the reader reads are numbers that stand in the bytes, as many as are asked for; or fewer, and then one that goes wrong.
+abbrev pub InSays : List ℕ → Numbers → Type 0
+InSays bytes (misread j) = (vs : List ℕ) × (k : ℕ) × Reads bytes 0 vs k × (length vs < asked vs) × (number bytes k ≡ Wrong j)
+InSays bytes (numbers vs j) = Reads bytes 0 vs j × (length vs ≡ asked vs)
 
-numbers-in : (bytes : List ℕ) → InSays bytes (numbersIn bytes)
+pub numbers-in : (bytes : List ℕ) → InSays bytes (numbersIn bytes)
 unfolding numbersIn countNumbers nodeNumbers before
 numbers-in bytes = first (number bytes 0) refl
   where
-    third : (c n i j : ℕ) → number bytes 0 ≡ Read c i → number bytes i ≡ Read n j → (x : Numbers) → numbersAt (2 * n) bytes j ≡ x → InSays bytes (before c (before n x))
-    third c n i j e f unread g = tt
-    third c n i j e f (numbers vs k) g = reads-more e (reads-more f (at-reads bytes (2 * n) j g))
+    third : (c n i j : ℕ) → number bytes 0 ≡ Read c i → number bytes i ≡ Read n j → (x : Numbers) → AtSays bytes (2 * n) j x → InSays bytes (before c (before n x))
+    third c n i j e f (misread k) h = (c ∷ (n ∷ h .0), h .1, reads-more e (reads-more f (h .2)), omega (arith, h .3), h .4)
+    third c n i j e f (numbers vs k) h = (reads-more e (reads-more f (h .0)), omega (arith, h .1))
 
     second : (c i : ℕ) → number bytes 0 ≡ Read c i → (x : Number) → number bytes i ≡ x → InSays bytes (numbersIn bytes)
-    second c i e (Wrong j) f = rw (e, f, numbersIn) tt
-    second c i e (Read n j) f = rw (e, f, numbersIn) (third c n i j e f (numbersAt (2 * n) bytes j) refl)
+    second c i e (Wrong j) f = rw (e, f, numbersIn) (c ∷ [], i, reads-more e reads-none, omega arith, f)
+    second c i e (Read n j) f = rw (e, f, numbersIn) (third c n i j e f (numbersAt (2 * n) bytes j) (at-says bytes (2 * n) j))
 
     first : (x : Number) → number bytes 0 ≡ x → InSays bytes (numbersIn bytes)
-    first (Wrong j) e = rw (e, numbersIn) tt
+    first (Wrong j) e = rw (e, numbersIn) ([], 0, reads-none, omega arith, e)
     first (Read c i) e = second c i e (number bytes i) refl
 
 loaded-as : (bytes vs : List ℕ) → numbersIn bytes ≡ numbers vs (length bytes) → loaded bytes ≡ stateFrom vs
@@ -106,13 +107,13 @@ state-loaded bytes vs e (some T) h = record { sound = h .sound; written = rw (h 
 
 numbers-loaded : (bytes : List ℕ) → Bytes bytes → (x : Numbers) → InSays bytes x → LoadedSays bytes (loadedNumbers (length bytes) x)
 unfolding loadedNumbers
-numbers-loaded bytes b unread h = tt
+numbers-loaded bytes b (misread j) h = tt
 numbers-loaded bytes b (numbers vs next) h = go (eqb next (length bytes)) refl
   where
     go : (x : Bool) → eqb next (length bytes) ≡ x → LoadedSays bytes (loadedNumbers (length bytes) (numbers vs next))
     go false e = rw (e, loadedNumbers) tt
     go true e =
-        let all : bytesOfAll vs ≡ bytes = sym (rw (eqb-true next (length bytes) e, drop-length bytes, append-nil) at (reads-there bytes b h)) in
+        let all : bytesOfAll vs ≡ bytes = sym (rw (eqb-true next (length bytes) e, drop-length bytes, append-nil) at (reads-there bytes b (h .0))) in
         rw (e, loadedNumbers) (state-loaded bytes vs all (stateFrom vs) (state-says vs))
 
 loaded-says : (bytes : List ℕ) → Bytes bytes → LoadedSays bytes (loaded bytes)
@@ -130,15 +131,15 @@ accepted-exactly bytes b = (
   λ x. (renumberedState (x .0), rw (x .2) at (loaded-saved (x .1))),
 )
 
-pub refused-exactly : (bytes : List ℕ) → Bytes bytes → (loaded bytes ≡ none) ↔ ((S : State) → Sound S → savedBytes S ≡ bytes → ⊥)
+pub refused-exactly : (bytes : List ℕ) → Bytes bytes → (loaded bytes ≡ none) ↔ Unwritten bytes
 refused-exactly bytes b = (refused, go (loaded bytes) refl)
   where
-    refused : loaded bytes ≡ none → (S : State) → Sound S → savedBytes S ≡ bytes → ⊥
+    refused : loaded bytes ≡ none → Unwritten bytes
     refused f S sound e =
         let g : loaded bytes ≡ some (renumberedState S) = rw e at (loaded-saved sound) in
         let z : _≡_ {A = ℕ} 0 1 = cc in omega arith
 
-    go : (x : Option State) → loaded bytes ≡ x → ((S : State) → Sound S → savedBytes S ≡ bytes → ⊥) → loaded bytes ≡ none
+    go : (x : Option State) → loaded bytes ≡ x → Unwritten bytes → loaded bytes ≡ none
     go none e h = e
     go (some T) e h = let s = loaded-stored bytes b e in absurd (h T (s .sound) (s .written))
 

@@ -12,7 +12,8 @@ use Rattle.encoding.specs.declared.Number.the-variants.{Read, Wrong}
 use Rattle.encoding.specs.Numbers.{number}
 use Rattle.saved.specs.Saved.{treeNumbers, topNumbers, Alike, alike-leaf, alike-node}
 use Rattle.saved.specs.There.{TreeAt, leaf-at, node-at, TopAt, none-at, tree-at}
-use Rattle.saved.proofs.ReadLists.{Reads, reads-none, reads-more, reads-append, reads-parts}
+use Rattle.saved.specs.Misread.{Reads, reads-none, reads-more}
+use Rattle.saved.proofs.ReadLists.{reads-append, reads-parts}
 
 -- a place reads as one number at most
 pub one-read : {x : Number} {v u m n : ℕ} → x ≡ Read v m → x ≡ Read u n → (v ≡ u) × (m ≡ n)

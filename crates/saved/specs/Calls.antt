@@ -5,7 +5,7 @@ use mathlib.Core.List.{List, _++_}
 use mathlib.Core.Option.{Option, none, some}
 use lib.Dec.{eqb, leb}
 use lib.ListN.{length, drop}
-use Prim.Native.Nat.{ℕ}
+use Prim.Native.Nat.{ℕ, min}
 use Rattle.tree.specs.declared.Refusal.{Refusal}
 use Rattle.tree.specs.declared.Refusal.the-variants.{PoolLength, RulesBroken, BadSaved, NoFit}
 use Rattle.tree.specs.declared.Answer.{Answer}
@@ -14,7 +14,7 @@ use Rattle.tree.specs.State.{State, nodes}
 use Rattle.format.specs.Words.{lengthGood, slotsIn, wordsOf}
 use Rattle.format.specs.Audit.{rulesHold, stateOf}
 use Rattle.saved.specs.Saved.{savedBytes}
-use Rattle.saved.specs.Loaded.{loaded}
+use Rattle.saved.specs.Loaded.{loaded, badPlace}
 
 -- a call's answer, and what it leaves of the bytes or words that it may write
 pub record Call : Type 0 where
@@ -24,7 +24,7 @@ pub record Call : Type 0 where
 abbrev pub gives : Answer → List ℕ → Call
 gives a lent = record { answer = a; left = lent }
 
--- RULES 16.4 and 16.5: "each with number 0; nothing is written on any of them" (the number beside a refusal is tree's `numberOf`)
+-- RULES 16.4 and 16.5: "nothing is written on any of them" (the number beside a refusal is tree's `numberOf`)
 abbrev pub refuses : Refusal → List ℕ → Call
 refuses f lent = gives (Refused f) lent
 
@@ -39,11 +39,18 @@ saveCall p out = elim (lengthGood p) [
   | true ↦ elim (rulesHold p) [ false ↦ refuses RulesBroken out | true ↦ saveInto (savedBytes (stateOf p)) out ]
 ]
 
+-- RULES 16.8: a place as the number beside 13, a 32-bit word: a place past 32 bits gives 4,294,967,295 (ours: 02 has no place there)
+abbrev pub lastWord : ℕ
+lastWord = 4294967295
+
+unfoldable pub placeWord : ℕ → ℕ
+placeWord j = min j lastWord
+
 -- RULES 16.5: "the reader [answers] 0 and N"; its order is "1, 13, 14", and 14 is for "a pool whose C differs from the saved one". "The
 -- reader's pool may hold any words": of p only its length counts.
-unfoldable pub loadState : Option State → List ℕ → Call
-loadState none p = refuses BadSaved p
-loadState (some S) p = elim (eqb (S .slots) (slotsIn p)) [ true ↦ gives (Done (nodes (S .top))) (wordsOf S) | false ↦ refuses NoFit p ]
+unfoldable pub loadState : Option State → ℕ → List ℕ → Call
+loadState none place p = refuses (BadSaved (placeWord place)) p
+loadState (some S) place p = elim (eqb (S .slots) (slotsIn p)) [ true ↦ gives (Done (nodes (S .top))) (wordsOf S) | false ↦ refuses NoFit p ]
 
 unfoldable pub loadCall : List ℕ → List ℕ → Call
-loadCall p bytes = elim (lengthGood p) [ false ↦ refuses PoolLength p | true ↦ loadState (loaded bytes) p ]
+loadCall p bytes = elim (lengthGood p) [ false ↦ refuses PoolLength p | true ↦ loadState (loaded bytes) (badPlace bytes) p ]

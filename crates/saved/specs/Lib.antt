@@ -2,3 +2,4 @@ pub mod Saved
 pub mod Loaded
 pub mod Calls
 pub mod There
+pub mod Misread

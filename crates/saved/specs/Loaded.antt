@@ -14,28 +14,28 @@ use Rattle.encoding.specs.declared.Number.the-variants.{Read, Wrong}
 use Rattle.encoding.specs.Numbers.{number}
 use Rattle.saved.specs.Saved.{withRest}
 
--- Numbers read from bytes and the place after them; or that one of them is bad.
+-- Numbers read from bytes and the place after them; or the byte at which the first bad one goes wrong.
 pub data Numbers : Type 0 where
   numbers : List ℕ → ℕ → Numbers
-  unread : Numbers
+  misread : ℕ → Numbers
 
 unfoldable pub before : ℕ → Numbers → Numbers
 before v (numbers vs next) = numbers (v ∷ vs) next
-before v unread = unread
+before v (misread j) = misread j
 
 -- n numbers from place i on
 unfoldable pub numbersAt : ℕ → List ℕ → ℕ → Numbers
 numbersAt zero bytes i = numbers [] i
-numbersAt (suc n) bytes i = elim (number bytes i) [ Read v next ↦ before v (numbersAt n bytes next) | Wrong j ↦ unread ]
+numbersAt (suc n) bytes i = elim (number bytes i) [ Read v next ↦ before v (numbersAt n bytes next) | Wrong j ↦ misread j ]
 
--- RULES 16.1: C, N and then two numbers for each of N nodes
+-- 02 (ii) (RULES 16.1): "The saved-form reader reads C, N and then two numbers for each of N nodes", before it judges any of them.
 unfoldable pub nodeNumbers : List ℕ → ℕ → Number → Numbers
 nodeNumbers bytes c (Read n next) = before c (before n (numbersAt (2 * n) bytes next))
-nodeNumbers bytes c (Wrong j) = unread
+nodeNumbers bytes c (Wrong j) = misread j
 
 unfoldable pub countNumbers : List ℕ → Number → Numbers
 countNumbers bytes (Read c next) = nodeNumbers bytes c (number bytes next)
-countNumbers bytes (Wrong j) = unread
+countNumbers bytes (Wrong j) = misread j
 
 unfoldable pub numbersIn : List ℕ → Numbers
 numbersIn bytes = countNumbers bytes (number bytes 0)
@@ -111,8 +111,17 @@ stateFrom (c ∷ (n ∷ vs)) = elim (isCount c n) [ true ↦ withTop c (topFrom 
 
 -- RULES 16.5: what the reader makes of bytes, a State; or nothing, of "bytes that no writer produces". No byte is left over.
 unfoldable pub loadedNumbers : ℕ → Numbers → Option State
-loadedNumbers end unread = none
+loadedNumbers end (misread j) = none
 loadedNumbers end (numbers vs next) = elim (eqb next end) [ true ↦ stateFrom vs | false ↦ none ]
 
 unfoldable pub loaded : List ℕ → Option State
 loaded bytes = loadedNumbers (length bytes) (numbersIn bytes)
+
+-- 02 (ii) (RULES 16.8): "its 13 gives the place of the first bad number, and the count of saved bytes where every number reads but no writer
+-- produces the whole".
+unfoldable pub placeIn : ℕ → Numbers → ℕ
+placeIn end (misread j) = j
+placeIn end (numbers vs next) = end
+
+unfoldable pub badPlace : List ℕ → ℕ
+badPlace bytes = placeIn (length bytes) (numbersIn bytes)

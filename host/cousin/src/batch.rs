@@ -7,6 +7,8 @@ use crate::updates::{delete, insert, search};
 
 const MOST_COMMANDS: usize = 256;
 const ANSWER_WORDS: usize = 2;
+/// The last group that a number may have, counted from 0.
+const FIFTH: usize = 4;
 
 /// A number and the place after it.
 pub struct Number {
@@ -31,10 +33,18 @@ pub fn number(bytes: &[u8], from: usize) -> Option<Number> {
             let shortest = byte != 0 || group == 0;
             return shortest.then_some(Number { value: value as u32, next });
         }
-        if group == 4 {
+        if group == FIFTH {
             return None;
         }
     }
+}
+
+/// The byte at which a number that was not read goes wrong: its last, be that a fifth above 0F or a 0 that is not needed, and
+/// where there is no last, the end of the input. Good bytes pay nothing for it: it is looked for after a refusal.
+#[cold]
+pub fn wrong_at(bytes: &[u8], from: usize) -> usize {
+    let last = (from..bytes.len()).find(|&place| bytes[place] < 0x80 || place == from + FIFTH);
+    last.unwrap_or(bytes.len())
 }
 
 struct Command {
@@ -44,19 +54,40 @@ struct Command {
     next: usize,
 }
 
+/// How many an operation has.
+#[inline]
+fn arguments(operation: u32) -> Option<usize> {
+    match operation {
+        1 | 2 | 3 | 5 => Some(1),
+        4 => Some(2),
+        _ => None,
+    }
+}
+
 fn command(bytes: &[u8], from: usize) -> Option<Command> {
     let operation = number(bytes, from)?;
-    let arguments = match operation.value {
-        1 | 2 | 3 | 5 => 1,
-        4 => 2,
-        _ => return None,
-    };
+    let arguments = arguments(operation.value)?;
     let first = number(bytes, operation.next)?;
     let second = if arguments == 2 { number(bytes, first.next)? } else { Number { value: 0, next: first.next } };
     Some(Command { operation: operation.value, first: first.value, second: second.value, next: second.next })
 }
 
-/// How many commands, or the byte where the first bad one begins.
+/// The byte at which a command that was not read goes wrong.
+#[cold]
+fn command_wrong_at(bytes: &[u8], from: usize) -> usize {
+    let Some(operation) = number(bytes, from) else {
+        return wrong_at(bytes, from);
+    };
+    if arguments(operation.value).is_none() {
+        return from; // "the byte where its number begins"
+    }
+    match number(bytes, operation.next) {
+        None => wrong_at(bytes, operation.next),
+        Some(first) => wrong_at(bytes, first.next),
+    }
+}
+
+/// How many commands, or the byte at which they go wrong.
 fn count(bytes: &[u8]) -> Result<usize, usize> {
     let mut commands = 0;
     let mut place = 0;
@@ -64,7 +95,10 @@ fn count(bytes: &[u8]) -> Result<usize, usize> {
         if commands == MOST_COMMANDS {
             return Err(place);
         }
-        place = command(bytes, place).ok_or(place)?.next;
+        let Some(read) = command(bytes, place) else {
+            return Err(command_wrong_at(bytes, place));
+        };
+        place = read.next;
         commands += 1;
     }
     Ok(commands)
@@ -80,8 +114,9 @@ fn run(pool: &mut [u32], c: &Command) -> Answer {
     }
 }
 
+/// A number past 32 bits is the greatest of them.
 pub fn refused(code: u32, number: usize) -> u64 {
-    u64::from(code) << 32 | number as u64 & 0xFFFF_FFFF
+    u64::from(code) << 32 | u64::from(u32::try_from(number).unwrap_or(u32::MAX))
 }
 
 /// Codes 1 to 4 refuse the call, in the order 1, 3, 4, 2.

@@ -1,6 +1,6 @@
 //! The saved form: C, N, then each node before its left subtree before its right.
 
-use crate::batch::{number, refused};
+use crate::batch::{number, refused, wrong_at};
 use crate::code;
 use crate::pool::{audit, free_from, nodes, read, root, set_header, slots, slots_of, write, Slot, FREE, HEAVIEST, MOST_SLOTS};
 
@@ -156,13 +156,29 @@ fn check(saved: &[u8]) -> Option<Header> {
     (reader.next == saved.len()).then_some(Header { c, n, tree })
 }
 
+/// The byte at which bytes that no pool is written as go wrong: the first of C, N and "two numbers for each of N nodes" that
+/// does not read, else "the count of saved bytes". Looked for after a refusal, as a number's is.
+#[cold]
+fn form_wrong_at(saved: &[u8]) -> usize {
+    let mut reader = Reader { saved, next: 0 };
+    let mut whole = || {
+        reader.number()?;
+        let numbers = 2 * u64::from(reader.number()?);
+        (0..numbers).try_for_each(|_| reader.number().map(drop))
+    };
+    match whole() {
+        None => wrong_at(saved, reader.next),
+        Some(()) => saved.len(),
+    }
+}
+
 /// Refusals in the order 1, 13, 14.
 pub fn load(pool: &mut [u32], saved: &[u8]) -> u64 {
     let Some(c) = slots(pool.len()) else {
         return refused(code::WRONG_LENGTH, 0);
     };
     let Some(header) = check(saved) else {
-        return refused(code::NEVER_WRITTEN, 0);
+        return refused(code::NEVER_WRITTEN, form_wrong_at(saved));
     };
     if header.c != c {
         return refused(code::OTHER_SIZE, 0);

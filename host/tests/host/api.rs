@@ -148,7 +148,127 @@ fn the_longest_batch() -> Result<(), Refused> {
     let longest = [4, 0xFF, 0xFF, 0xFF, 0xFF, 0x0F, 0xFF, 0xFF, 0xFF, 0xFF, 0x0F].repeat(Batch::MOST);
     assert_eq!(longest.len(), Batch::LONGEST);
     let mut pool = Pool::prepare(vec![0; Pool::words_for(1)])?;
+    let one_more = [&longest[..], &[1]].concat();
+    assert_eq!(pool.run_bytes(&one_more, &mut []), Err(Refused::BadCommand { wrong_at: 2816 }), "the last place there is");
     pool.run_bytes(&longest, &mut [0; 2 * Batch::MOST])
+}
+
+/// What host/README.md says of a place, by the byte there and the one before it.
+#[derive(Clone, Copy, Debug, PartialEq, Eq)]
+enum Row {
+    CutShort,
+    NotShortest,
+    TooLarge,
+    CommandBegins,
+}
+
+fn row(bytes: &[u8], place: u32) -> Row {
+    let there = bytes.get(place as usize);
+    match (bytes[..place as usize].last(), there) {
+        (_, None) => Row::CutShort,
+        (Some(0x80..), Some(0x00)) => Row::NotShortest,
+        (Some(0x80..), Some(0x10..)) => Row::TooLarge,
+        (None | Some(..=0x7F), _) => Row::CommandBegins,
+        _ => panic!("the page has no row for byte {place} of {bytes:02X?}"),
+    }
+}
+
+/// Each cause of code 3, with its place.
+#[test]
+fn where_a_batch_goes_wrong() -> Result<(), Refused> {
+    let full = [1, 7].repeat(Batch::MOST);
+    let after_256 = |bytes: &[u8]| [&full[..], bytes].concat();
+    let cases = [
+        // a number: its fifth byte, above 0F
+        (vec![2, 0xFF, 0xFF, 0xFF, 0xFF, 0x10], 5, Row::TooLarge),
+        (vec![2, 7, 4, 1, 0x80, 0x80, 0x80, 0x80, 0x8F, 0x01], 8, Row::TooLarge),
+        (vec![0x80, 0x80, 0x80, 0x80, 0x80], 4, Row::TooLarge), // also where the batch ends with it
+        // else the end of the batch
+        (vec![0x80, 0x80, 0x80, 0x80], 4, Row::CutShort),
+        (vec![2, 7, 2], 3, Row::CutShort),
+        (vec![2, 7, 2, 0x80], 4, Row::CutShort),
+        (vec![4, 1], 2, Row::CutShort),
+        // else its last byte
+        (vec![2, 7, 2, 0x80, 0x00, 9], 4, Row::NotShortest),
+        (vec![2, 0x80, 0x80, 0x80, 0x80, 0x00], 5, Row::NotShortest),
+        (vec![4, 1, 0x83, 0x00], 3, Row::NotShortest),
+        (vec![0x82, 0x00, 7], 1, Row::NotShortest),
+        // an unknown operation: where its number begins
+        (vec![0], 0, Row::CommandBegins),
+        (vec![2, 7, 6, 7], 2, Row::CommandBegins),
+        (vec![2, 7, 0x82, 0x01, 0x80], 2, Row::CommandBegins),
+        // the 257th command: where it begins, whatever is in it
+        (after_256(&[1, 7]), 512, Row::CommandBegins),
+        (after_256(&[9]), 512, Row::CommandBegins),
+        (after_256(&[0x80, 0x80, 0x80, 0x80, 0x80]), 512, Row::CommandBegins),
+        (after_256(&[0x81, 0x00]), 512, Row::CommandBegins),
+        (after_256(&[2, 0x80, 0x00]), 512, Row::CommandBegins),
+        // the first fault of several
+        (vec![2, 0x87, 0x00, 9, 0x80], 2, Row::NotShortest),
+    ];
+    let mut pool = Pool::prepare(vec![0; Pool::words_for(9)])?;
+    for (bytes, place, cause) in cases {
+        assert_eq!(pool.run_bytes(&bytes, &mut []), Err(Refused::BadCommand { wrong_at: place }), "{bytes:02X?}");
+        assert_eq!(row(&bytes, place), cause, "byte {place} of {bytes:02X?}");
+    }
+    assert_eq!(pool.keys()?, 0, "nothing ran");
+    Ok(())
+}
+
+/// What comes before the place is good as far as it goes: whole commands where one begins there, and else it is only cut short.
+#[test]
+fn what_comes_before_the_place_is_good() -> Result<(), Refused> {
+    const ALPHABET: [u8; 7] = [0x00, 0x01, 0x04, 0x0F, 0x10, 0x80, 0xFF];
+    let mut pool = Pool::prepare(vec![0; Pool::words_for(1)])?;
+    let mut answers = [0; 10];
+    let mut seen = [0; 4];
+    for length in 0..=5 {
+        for nth in 0..ALPHABET.len().pow(length) {
+            let bytes: Vec<u8> = (0..length).map(|i| ALPHABET[nth / ALPHABET.len().pow(i) % ALPHABET.len()]).collect();
+            let Err(refused) = pool.run_bytes(&bytes, &mut answers) else { continue };
+            let Refused::BadCommand { wrong_at } = refused else { panic!("{refused:?}") };
+            let cause = row(&bytes, wrong_at);
+            let before = pool.run_bytes(&bytes[..wrong_at as usize], &mut answers);
+            let wanted = if cause == Row::CommandBegins { Ok(()) } else { Err(refused) };
+            assert_eq!(before, wanted, "before byte {wrong_at} of {bytes:02X?}");
+            seen[cause as usize] += 1;
+        }
+    }
+    assert!(seen.iter().all(|&times| times > 20), "{seen:?}");
+    Ok(())
+}
+
+/// host/README.md reads `refused 3 40`, byte by byte.
+#[test]
+fn the_page_s_batch_goes_wrong_at_byte_40() -> Result<(), Box<dyn Error>> {
+    let mut bytes = vec![];
+    for line in include_str!("../../README.md").lines().filter_map(|line| line.strip_prefix("byte ")) {
+        let mut words = line.split_whitespace();
+        assert_eq!(words.next(), Some(&*bytes.len().to_string()), "the page's {line}");
+        bytes.extend(words.map_while(|word| u8::from_str_radix(word, 16).ok()));
+    }
+    // what it says that these are, and its one fault
+    let mut batch = Batch::new();
+    for resident in 1..=6 {
+        batch.push_insert(4411 << 16 | resident)?;
+    }
+    batch.push_settle(9)?;
+    batch.push_step(1, Kind::Three)?;
+    let mut good = [0; Batch::LONGEST];
+    let count = batch.write(&mut good);
+    assert_eq!(bytes, [&good[..39], &[0x81, 0x00], &good[40..count]].concat());
+    assert_eq!((bytes.len(), good[39], bytes[40]), (42, 0x01, 0x00));
+
+    let mut pool = Pool::prepare(vec![0; Pool::words_for(127)])?;
+    let mut answers = [7; 16];
+    let refused = pool.run_bytes(&bytes, &mut answers).unwrap_err();
+    assert_eq!(refused, Refused::BadCommand { wrong_at: 40 });
+    assert_eq!(format!("refused {} {}", refused.code(), refused.number()), "refused 3 40");
+    assert_eq!(row(&bytes, 40), Row::NotShortest);
+    assert_eq!((answers, pool.keys()?), ([7; 16], 0), "nothing ran");
+    pool.run_bytes(&good[..count], &mut answers)?;
+    assert_eq!(pool.keys()?, 6);
+    Ok(())
 }
 
 #[test]
@@ -163,7 +283,7 @@ fn refused_calls() {
     let mut pool = Pool::prepare(&mut words[..]).unwrap();
     let before = pool.words().to_vec();
     let mut answers = [7; 9];
-    assert_eq!(pool.run_bytes(&[2, 1, 0x80, 0x00], &mut answers), Err(Refused::BadCommand { byte: 2 }));
+    assert_eq!(pool.run_bytes(&[2, 1, 0x80, 0x00], &mut answers), Err(Refused::BadCommand { wrong_at: 3 }));
     assert_eq!(pool.run_bytes(&[2, 1], &mut answers[..1]), Err(Refused::FewAnswers));
     assert_eq!((pool.words(), answers), (&before[..], [7; 9]));
     assert_eq!(pool.run_bytes(&[2, 1, 1, 2], &mut answers), Ok(()));
@@ -281,13 +401,53 @@ fn refused_saves_and_loads() {
     let [nine, eight] = [9, 8].map(Pool::words_for);
     assert_eq!(loaded(nine, &bytes), Ok(()));
     assert_eq!(loaded(nine - 1, &bytes[1..]), Err(Refused::WrongLength));
-    assert_eq!(loaded(eight, &bytes[1..]), Err(Refused::BadSaved));
+    assert_eq!(loaded(eight, &bytes[1..]), Err(Refused::BadSaved { wrong_at: 15 }));
     assert_eq!(loaded(eight, &bytes), Err(Refused::NoFit));
-    assert_eq!(loaded(nine, &[]), Err(Refused::BadSaved));
     for cut in 0..bytes.len() {
-        assert_eq!(loaded(nine, &bytes[..cut]), Err(Refused::BadSaved), "{cut} bytes");
+        assert_eq!(loaded(nine, &bytes[..cut]), Err(Refused::BadSaved { wrong_at: cut as u32 }), "{cut} bytes");
     }
-    assert_eq!(loaded(nine, &[&bytes[..], &[0]].concat()), Err(Refused::BadSaved));
+    assert_eq!(loaded(nine, &[&bytes[..], &[0]].concat()), Err(Refused::BadSaved { wrong_at: 17 }));
+}
+
+/// Each cause of code 13, with its place.
+#[test]
+fn where_saved_bytes_go_wrong() {
+    let cases: [(&[u8], u32); 19] = [
+        // the first bad number, in C: its fifth byte above 0F, the end of the bytes, its last byte
+        (&[0x80, 0x80, 0x80, 0x80, 0x10, 0], 4),
+        (&[0x80, 0x80, 0x80, 0x80, 0x80], 4),
+        (&[], 0),
+        (&[0x89], 1),
+        (&[0x89, 0x00, 0x00], 1),
+        // in N
+        (&[9, 0xFF, 0xFF, 0xFF, 0xFF, 0x1F, 0], 5),
+        (&[9], 1),
+        (&[9, 0x81, 0x00, 2, 5], 2),
+        // in a node
+        (&[9, 1, 2, 0xFF, 0xFF, 0xFF, 0xFF, 0x10], 7),
+        (&[9, 1, 2], 3),
+        (&[9, 1, 0x82, 0x00, 5], 3),
+        (&[9, 3, 3, 5, 2, 0x85, 0x00, 2, 6], 6),
+        // before anything is judged: C is 0, N is above C, the root weighs 2
+        (&[0, 1, 4, 0x85, 0x00, 9], 4),
+        (&[1, 3, 4, 5, 2, 5, 2, 0x86, 0x00, 9], 8),
+        // every number reads: the count of the bytes
+        (&[0, 0], 2),
+        (&[9, 1, 4, 5], 4),
+        (&[9, 3, 3, 5, 2, 6, 2, 6], 8),
+        // also where bytes are left over, which are not read
+        (&[9, 1, 2, 5, 0], 5),
+        (&[9, 0, 0x80, 0x00, 7], 5),
+    ];
+    let mut words = vec![5; Pool::words_for(9)];
+    for (saved, place) in cases {
+        let refused = Pool::load(&mut words[..], saved).map(drop);
+        assert_eq!(refused, Err(Refused::BadSaved { wrong_at: place }), "{saved:02X?}");
+        // what comes before the place is only cut short
+        let before = Pool::load(&mut words[..], &saved[..place as usize]).map(drop);
+        assert_eq!(before, refused, "before byte {place} of {saved:02X?}");
+    }
+    assert_eq!(words, [5; Pool::words_for(9)]);
 }
 
 /// Code times 4,294,967,296 plus number.
@@ -299,7 +459,7 @@ fn raw_saves_and_loads() {
     assert_eq!(raw::save(pool.words(), &mut out), bytes.len() as u64);
     assert_eq!(raw::load(&mut words, &bytes), 7);
     assert_eq!([raw::save(&words[1..], &mut out), raw::load(&mut words[1..], &bytes)], [1 << 32; 2]);
-    assert_eq!(raw::load(&mut words, &bytes[1..]), 13 << 32);
+    assert_eq!([raw::load(&mut words, &bytes[1..]), raw::load(&mut words, &[9, 0x80, 0x00])], [(13 << 32) + 15, (13 << 32) + 2]);
     assert_eq!([raw::save(&words, &mut out[..5]), raw::load(&mut words[4..], &bytes)], [14 << 32; 2]);
     words[3] = 1;
     assert_eq!(raw::save(&words, &mut out), 2 << 32);
@@ -467,9 +627,9 @@ fn codes_are_numbered() {
     let step = [Stepped::NO_INNER_NODE, Stepped::NO_KIND, Stepped::CONDITION_FALSE, Stepped::TOO_TALL];
     let saved = [Refused::BAD_SAVED, Refused::NO_FIT];
     assert!([&call[..], &update, &step, &[Settled::BUDGET_SPENT], &saved].concat().into_iter().eq(1..=14));
-    let refused = [Refused::WrongLength, Refused::RulesBroken, Refused::BadCommand { byte: 40 }, Refused::FewAnswers];
+    let refused = [Refused::WrongLength, Refused::RulesBroken, Refused::BadCommand { wrong_at: 40 }, Refused::FewAnswers];
     assert_eq!(refused.map(|r| (r.code(), r.number())), [(1, 0), (2, 0), (3, 40), (4, 0)]);
-    assert_eq!([Refused::BadSaved, Refused::NoFit].map(|r| (r.code(), r.number())), [(13, 0), (14, 0)]);
+    assert_eq!([Refused::BadSaved { wrong_at: 41 }, Refused::NoFit].map(|r| (r.code(), r.number())), [(13, 41), (14, 0)]);
 }
 
 #[test]
@@ -508,15 +668,16 @@ fn errors_are_errors() {
         "refused with code 2: the pool breaks an audit rule; what it says of marks means nothing, send no text by it"
     );
     assert_eq!(
-        Refused::BadCommand { byte: 40 }.to_string(),
-        "refused with code 3: the command that begins at byte 40 of the batch is unknown, cut short, not in shortest form, too large or \
-         the 257th; a Batch writes none like it"
+        Refused::BadCommand { wrong_at: 40 }.to_string(),
+        "refused with code 3: the batch goes wrong at byte 40, counted from 0: there a number is too large or not in shortest form, the \
+         batch ends inside a command, or an unknown operation or the 257th command begins; nothing ran; write the batch anew, with a \
+         Batch, which writes none like it"
     );
     assert_eq!(Refused::FewAnswers.to_string(), "refused with code 4: there are fewer than two answer words per command; lend more");
     assert_eq!(
-        Refused::BadSaved.to_string(),
-        "refused with code 13: these bytes are no saved set; which texts went is not known: send none, do not begin empty, put back the \
-         bytes of the last save"
+        Refused::BadSaved { wrong_at: 41 }.to_string(),
+        "refused with code 13: these bytes are no saved set: they go wrong at byte 41, counted from 0, or, where that is their count, are \
+         cut short or wrong as a whole; which texts went is not known: send none, do not begin empty, put back the bytes of the last save"
     );
     assert_eq!(
         Refused::NoFit.to_string(),

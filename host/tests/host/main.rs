@@ -8,6 +8,7 @@ mod causes;
 mod damage;
 mod hurtful;
 mod pair;
+mod places;
 mod pools;
 mod random;
 mod rng;

@@ -276,13 +276,16 @@ fn examine(saved: &[u8], seen: &mut Seen) -> bool {
     let why = cause(saved);
     let (answer, words) = seen.load(&before(slots), saved);
     let good = answer.0 == 0;
-    assert_eq!(why.is_none(), good, "{saved:02X?}: {why:?}");
+    if let Some((_, place)) = why {
+        assert_eq!(answer, (13, place as u32), "{saved:02X?}: {why:?}");
+    }
+    assert_eq!(why.is_none(), good, "{saved:02X?}: {answer:?}");
     let other = if slots == 9 { 10 } else { 9 };
-    assert_eq!(seen.load(&before(other), saved).0, (if good { 14 } else { 13 }, 0), "{saved:02X?} into {other} slots");
+    assert_eq!(seen.load(&before(other), saved).0, if good { (14, 0) } else { answer }, "{saved:02X?} into {other} slots");
     assert_eq!(seen.load(&before(slots)[1..], saved).0, (1, 0), "{saved:02X?} into no pool");
     match why {
         None => assert_eq!(seen.save(&words, saved.len()), ((0, saved.len() as u32), saved.to_vec()), "saved again"),
-        Some(why) => seen.causes[why as usize] += 1,
+        Some((why, _)) => seen.causes[why as usize] += 1,
     }
     good
 }
@@ -432,7 +435,7 @@ fn one_number_away() {
 }
 
 /// Every string of so many of these bytes, after a beginning.
-fn every_string(beginning: &[u8], bytes: &[u8], len: usize, tried: &mut impl FnMut(&[u8])) {
+pub fn every_string(beginning: &[u8], bytes: &[u8], len: usize, tried: &mut impl FnMut(&[u8])) {
     if len == 0 {
         tried(beginning);
     } else {

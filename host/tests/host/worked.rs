@@ -132,8 +132,10 @@ fn p9_numbers() {
     for good in [&[0x80, 0x01][..], &[0xFF, 0xFF, 0xFF, 0xFF, 0x0F], &[0], &[0x7F]] {
         assert_eq!(search(good), (0, 0));
     }
-    for bad in [&[0x80, 0x00][..], &[0xFF, 0xFF, 0xFF, 0xFF, 0x10], &[0xFF, 0xFF, 0xFF, 0xFF, 0x8F, 0x00], &[0x80], &[]] {
-        assert_eq!(search(bad), (3, 0));
+    for (bad, place) in
+        [(&[0x80, 0x00][..], 2), (&[0xFF, 0xFF, 0xFF, 0xFF, 0x10], 5), (&[0xFF, 0xFF, 0xFF, 0xFF, 0x8F, 0x00], 5), (&[0x80], 2), (&[], 1)]
+    {
+        assert_eq!(search(bad), (3, place));
     }
     let mut keys = Pair::prepared(NINE);
     assert_eq!(library_batch(&mut keys.words, &[2, 0x80, 0x01, 2, 0xFF, 0xFF, 0xFF, 0xFF, 0x0F], &mut [0; 4]), (0, 0));
@@ -421,9 +423,9 @@ fn order_of_refusals_of_load() {
         (0, &[], (1, 0)),
         (4, &p1, (1, 0)),
         (4100, &p1, (1, 0)),
-        (40, &nine_with_a_red_root, (13, 0)),
-        (44, &nine_with_a_red_root, (13, 0)),
-        (44, &two_thousand_slots, (13, 0)),
+        (40, &nine_with_a_red_root, (13, 4)),
+        (44, &nine_with_a_red_root, (13, 4)),
+        (44, &two_thousand_slots, (13, 3)),
         (40, &[], (13, 0)),
         (44, &p1, (14, 0)),
         (36, &p1, (14, 0)),

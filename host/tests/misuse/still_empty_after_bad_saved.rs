@@ -21,7 +21,7 @@ fn main() {
     let stored = pool.save(&mut out).unwrap();
     let cut = &stored[..stored.len() - 1];
     // A file that was cut short is refused with code 13, one of another number of slots with code 14.
-    assert_eq!(Pool::load(vec![0; Pool::words_for(3)], cut).err(), Some(Refused::BadSaved));
+    assert_eq!(Pool::load(vec![0; Pool::words_for(3)], cut).err(), Some(Refused::BadSaved { wrong_at: 7 }));
     assert_eq!(Pool::load(vec![0; Pool::words_for(5)], stored).err(), Some(Refused::NoFit));
     for (slots, saved) in [(3, cut), (5, stored)] {
         let mut pool = restarted(slots, saved).unwrap();

@@ -8,5 +8,6 @@ fn main() {
     let mut out = [0; Pool::saved_bytes_for(3)];
     pool.save(&mut out).unwrap();
     let stored = out.to_vec();
-    assert_eq!(Pool::load(vec![0; Pool::words_for(3)], &stored).err(), Some(Refused::BadSaved));
+    // 3 slots and 0 nodes read, and the other bytes are left over: the place is the count of all.
+    assert_eq!(Pool::load(vec![0; Pool::words_for(3)], &stored).err(), Some(Refused::BadSaved { wrong_at: 25 }));
 }

@@ -29,13 +29,13 @@ same-length c = search needs
 
 -- Codes 1, 4 and 2, each from the tests before it.
 returns : tie.Need-returns
-returns c = call-refuses PoolLength _ _ _ {n = 0} (search test-length) (search needs)
+returns c = call-refuses PoolLength _ _ _ (search test-length) (search needs)
 
 returns-2 : tie.Need-returns-2
-returns-2 c = call-refuses FewAnswers _ _ _ {n = 0} (search test-few) (search needs)
+returns-2 c = call-refuses FewAnswers _ _ _ (search test-few) (search needs)
 
 returns-3 : tie.Need-returns-3
-returns-3 c = call-refuses RulesBroken _ _ _ {n = 0} (search test-broken) (search needs)
+returns-3 c = call-refuses RulesBroken _ _ _ (search test-broken) (search needs)
 
 scan-requires : tie.Need-scan-requires
 scan-requires c κs = search needs
@@ -43,8 +43,8 @@ scan-requires c κs = search needs
 enum-known-found : tie.Need-enum-known-found
 enum-known-found c = search needs
 
-cast-refuse : tie.Need-cast-refuse
-cast-refuse c = omega (arith, place-fits _ _ (c .before .before .before .scan .ensures) _ (c .before .found .given .1))
+cast-byte : tie.Need-cast-byte
+cast-byte c = omega (arith, place-fits _ _ (c .before .before .before .scan .ensures) _ (c .before .found .given .1))
 
 refuse-requires-2 : tie.Need-refuse-requires-2
 refuse-requires-2 c κs = search needs
@@ -89,7 +89,7 @@ same-length-4 c = search needs
 returns-4 : tie.Need-returns-4
 returns-4 c =
     let s = c .before .before .before .before in
-    call-refuses BadCommand _ _ _ (finds-bad _ _ (s .scan .ensures) _ _ (good (s .before)) _ (c .before .before .found .given .1)) (c .refuse2 .ensures)
+    call-refuses (BadCommand _) _ _ _ (finds-bad _ _ (s .scan .ensures) _ _ (good (s .before)) _ (c .before .before .found .given .1)) (c .refuse2 .ensures)
 
 same-length-5 : tie.Need-same-length-5
 same-length-5 c = search needs
@@ -119,7 +119,7 @@ batch-spec =
     returns
     scan-requires
     enum-known-found
-    cast-refuse
+    cast-byte
     refuse-requires-2
     enum-known-found-2
     mul-if2

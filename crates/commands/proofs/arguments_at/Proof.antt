@@ -8,8 +8,8 @@ use Rattle.commands.proofs.arguments_at.Tie as tie
 number-requires : tie.Need-number-requires
 number-requires c κs = search needs
 
-enum-known-place : tie.Need-enum-known-place
-enum-known-place c = search needs
+enum-known-in-first : tie.Need-enum-known-in-first
+enum-known-in-first c = search needs
 
 enum-known-first : tie.Need-enum-known-first
 enum-known-first c = search needs
@@ -21,7 +21,7 @@ last-argument-requires : tie.Need-last-argument-requires
 last-argument-requires c κs = search needs
 
 returns : tie.Need-returns
-returns c = sym (first-wrong _ _ _ _ (sym (c .before .before .before .number .ensures) ∙ c .before .place .given .1))
+returns c = sym (first-wrong _ _ _ _ (sym (c .before .before .before .number .ensures) ∙ c .before .in-first .given .1))
 
 returns-2 : tie.Need-returns-2
 returns-2 c =
@@ -38,7 +38,7 @@ arguments-at-spec =
     tie.close
     (tie.spec
     number-requires
-    enum-known-place
+    enum-known-in-first
     enum-known-first
     arguments-requires
     last-argument-requires

@@ -8,8 +8,8 @@ use Rattle.commands.proofs.command_at.Tie as tie
 number-requires : tie.Need-number-requires
 number-requires c κs = search needs
 
-enum-known-place : tie.Need-enum-known-place
-enum-known-place c = search needs
+enum-known-in-operation : tie.Need-enum-known-in-operation
+enum-known-in-operation c = search needs
 
 enum-known-n : tie.Need-enum-known-n
 enum-known-n c = search needs
@@ -33,7 +33,7 @@ arguments-at-requires c κs = search needs
 
 returns-2 : tie.Need-returns-2
 unfolding commandAt operationAt
-returns-2 c = rw (sym (c .before .before .before .number .ensures) ∙ c .before .place .given .1, commandAt)
+returns-2 c = rw (sym (c .before .before .before .number .ensures) ∙ c .before .in-operation .given .1, commandAt)
 
 returns-3 : tie.Need-returns-3
 unfolding commandAt operationAt meantAt
@@ -44,7 +44,7 @@ command-at-spec =
     tie.close
     (tie.spec
     number-requires
-    enum-known-place
+    enum-known-in-operation
     enum-known-n
     named-requires
     enum-known-operation

@@ -8,15 +8,15 @@ use Rattle.commands.proofs.last_argument.Tie as tie
 number-requires : tie.Need-number-requires
 number-requires c κs = search needs
 
-enum-known-place : tie.Need-enum-known-place
-enum-known-place c = search needs
+enum-known-in-second : tie.Need-enum-known-in-second
+enum-known-in-second c = search needs
 
 enum-known-second : tie.Need-enum-known-second
 enum-known-second c = search needs
 
 returns : tie.Need-returns
 unfolding lastArgument
-returns c = rw (sym (c .before .before .before .number .ensures) ∙ c .before .place .given .1)
+returns c = rw (sym (c .before .before .before .number .ensures) ∙ c .before .in-second .given .1)
 
 returns-2 : tie.Need-returns-2
 unfolding lastArgument
@@ -24,4 +24,4 @@ returns-2 c = rw (sym (c .before .before .before .number .ensures) ∙ c .before
 
 pub last-argument-spec : {M : Type 1} → statement M
 last-argument-spec =
-    tie.close (tie.spec number-requires enum-known-place enum-known-second returns returns-2)
+    tie.close (tie.spec number-requires enum-known-in-second enum-known-second returns returns-2)

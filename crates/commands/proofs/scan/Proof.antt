@@ -23,13 +23,14 @@ returns c = scan-over (c .before .before .loop .inv) (c .before .loop-test .take
 command-at-requires : tie.Need-command-at-requires Inv-loop μ-loop
 command-at-requires c κs = search needs
 
-enum-known--fault : tie.Need-enum-known--fault Inv-loop μ-loop
-enum-known--fault c = search needs
+enum-known-place : tie.Need-enum-known-place Inv-loop μ-loop
+enum-known-place c = search needs
 
 returns-2 : tie.Need-returns-2 Inv-loop μ-loop
 returns-2 c =
     scan-fault (c .before .before .before .before .before .before .loop .inv) _ (c .before .before .before .before .before .loop-test .taken)
-    (sym (c .before .before .before .command-at .ensures) ∙ c .before .-fault .given .1)
+    (c .before .before .before .before .if1 .left)
+    (sym (c .before .before .before .command-at .ensures) ∙ c .before .place .given .1)
 
 enum-known-next : tie.Need-enum-known-next Inv-loop μ-loop
 enum-known-next c = search needs
@@ -58,7 +59,7 @@ scan-spec =
     loop-holds
     returns
     command-at-requires
-    enum-known--fault
+    enum-known-place
     returns-2
     enum-known-next
     add-count

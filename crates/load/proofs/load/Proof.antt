@@ -1,6 +1,7 @@
 -- `load::load` meets its contract: it goes by the length, what the bytes say, and C. Assumes nothing.
-use mathlib.Core.Path.{sym, _∙_}
+use mathlib.Core.Path.{ap, sym, _∙_}
 use borrow.Author.Tests.{not-true, not-false}
+use Rattle.saved.specs.Calls.{placeWord}
 use Rattle.saved.proofs.Restarts.{both, load-length, load-bad}
 use Rattle.load.proofs.Filling.{load-able, load-other, load-filled}
 use borrow.Author.Needs.{needs}
@@ -25,11 +26,21 @@ enum-known-c c = search needs
 enum-told : tie.Need-enum-told
 enum-told c = search needs
 
+bad-place-requires : tie.Need-bad-place-requires
+bad-place-requires c κs = search needs
+
+place-word-requires : tie.Need-place-word-requires
+place-word-requires c κs = search needs
+
 same-length-2 : tie.Need-same-length-2
 same-length-2 c = search needs
 
 returns-2 : tie.Need-returns-2
-returns-2 c = both (load-bad _ _ (sym (c .before .before .before .before .length-good .ensures) ∙ not-false _ (c .before .before .before .if1 .left)) (rw (c .enum-told .given .1) at (c .before .before .judge-all .ensures)))
+returns-2 c =
+    let long = sym (c .before .before .before .before .before .before .length-good .ensures) ∙ not-false _ (c .before .before .before .before .before .if1 .left) in
+    let none = rw (c .before .before .enum-told .given .1) at (c .before .before .before .before .judge-all .ensures) in
+    let byte = c .place-word .ensures ∙ ap placeWord (c .before .bad-place .ensures) in
+    both (load-bad _ _ long none byte)
 
 last-slot-requires : tie.Need-last-slot-requires
 last-slot-requires c κs = search needs
@@ -59,6 +70,8 @@ load-spec =
     judge-all-requires
     enum-known-c
     enum-told
+    bad-place-requires
+    place-word-requires
     same-length-2
     returns-2
     last-slot-requires

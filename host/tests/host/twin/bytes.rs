@@ -11,51 +11,73 @@ pub enum Command {
 
 const MOST_COMMANDS: usize = 256;
 
-/// The number at the beginning and the bytes after it. "Only the shortest form, at most 4,294,967,295."
-pub(super) fn number(bytes: &[u8]) -> Option<(u32, &[u8])> {
-    let last = bytes.iter().position(|b| b & 0x80 == 0)?;
-    let (groups, rest) = bytes.split_at(last + 1);
-    let longer_than_needed = last > 0 && groups[last] == 0;
-    if longer_than_needed || groups.len() > 5 {
-        return None;
-    }
-    let value = groups.iter().rev().fold(0u64, |v, g| v * 128 + u64::from(g % 128));
-    Some((u32::try_from(value).ok()?, rest))
-}
-
-fn command(bytes: &[u8]) -> Option<(Command, &[u8])> {
-    let (operation, rest) = number(bytes)?;
-    if !(1..=5).contains(&operation) {
-        return None;
-    }
-    let (first, rest) = number(rest)?;
-    let (command, rest) = match operation {
-        1 => (Command::Search(first), rest),
-        2 => (Command::Insert(first), rest),
-        3 => (Command::Delete(first), rest),
-        4 => {
-            let (kind, rest) = number(rest)?;
-            (Command::Step(first, kind), rest)
+/// The number at the beginning and how many bytes it has; or at which byte it goes wrong, the number's first being 0. "Only
+/// the shortest form, at most 4,294,967,295."
+fn number(bytes: &[u8]) -> Result<(u32, usize), usize> {
+    let last = bytes.iter().take(4).take_while(|&&byte| byte & 0x80 != 0).count();
+    // "the fifth if that byte is above 0F, else the end of the input if cut short, else the last byte if not in shortest form"
+    match bytes.get(last) {
+        Some(0x10..) if last == 4 => Err(4),
+        None => Err(bytes.len()),
+        Some(0) if last > 0 => Err(last),
+        Some(_) => {
+            let value = bytes[..=last].iter().rev().fold(0, |v, g| v * 128 + u64::from(g % 128));
+            Ok((value as u32, last + 1))
         }
-        _ => (Command::Settle(first), rest),
-    };
-    Some((command, rest))
+    }
 }
 
-/// All commands, or the byte where the first bad one begins.
+/// The numbers that bytes are: all that read, and then one that does not. There is one always, for after the last byte the
+/// next number is cut short, at the end of the input.
+pub(super) struct Numbers {
+    pub values: Vec<u32>,
+    /// The byte where each begins, and where the one begins that does not read.
+    pub begins: Vec<usize>,
+    /// The byte at which that one goes wrong.
+    pub wrong_at: usize,
+}
+
+impl Numbers {
+    pub fn of(bytes: &[u8]) -> Numbers {
+        let (mut values, mut begins, mut begin) = (vec![], vec![], 0);
+        loop {
+            begins.push(begin);
+            match number(&bytes[begin..]) {
+                Ok((value, len)) => {
+                    values.push(value);
+                    begin += len;
+                }
+                Err(byte) => return Numbers { values, begins, wrong_at: begin + byte },
+            }
+        }
+    }
+}
+
+/// All commands, or the byte at which they go wrong.
 pub fn commands(bytes: &[u8]) -> Result<Vec<Command>, usize> {
+    let Numbers { values, begins, wrong_at } = Numbers::of(bytes);
+    let mut ahead = values.into_iter();
     let mut found = vec![];
-    let mut rest = bytes;
-    while !rest.is_empty() {
-        let begin = bytes.len() - rest.len();
+    loop {
+        let begin = begins[begins.len() - 1 - ahead.len()];
+        if begin == bytes.len() {
+            return Ok(found);
+        }
+        // "as does a 257th command, which counts before any fault inside it"
         if found.len() == MOST_COMMANDS {
             return Err(begin);
         }
-        let (command, after) = command(rest).ok_or(begin)?;
-        found.push(command);
-        rest = after;
+        let mut next = || ahead.next().ok_or(wrong_at);
+        found.push(match next()? {
+            1 => Command::Search(next()?),
+            2 => Command::Insert(next()?),
+            3 => Command::Delete(next()?),
+            4 => Command::Step(next()?, next()?),
+            5 => Command::Settle(next()?),
+            // "An unknown operation number gives the byte where its number begins"
+            _ => return Err(begin),
+        });
     }
-    Ok(found)
 }
 
 /// The seven-bit groups of a number, with `padding` needless groups of zeros.

@@ -1,7 +1,7 @@
 //! The saved form of document 02: "C, N, then each node from the root, node before its left subtree before its right".
 
 use super::audit::slots;
-use super::bytes::number;
+use super::bytes::Numbers;
 use super::{audit, edge, inner, leaf, read, write_number, Answer, Edge, Set, MOST_SLOTS};
 
 impl Set {
@@ -13,23 +13,27 @@ impl Set {
         bytes
     }
 
-    /// The set that is written as these bytes, its slots numbered from 1 on, if there is one.
-    fn restored(saved: &[u8]) -> Option<Set> {
-        let set = Set::understood(saved)?;
-        // "bytes that no writer produces": a writer takes what passes the audit, and writes it so.
-        (audit(&set.words()) == 0 && set.saved() == saved).then_some(set)
+    /// The set that is written as these bytes, its slots numbered from 1 on; or the byte at which they go wrong.
+    fn restored(saved: &[u8]) -> Result<Set, usize> {
+        let Numbers { values, wrong_at, .. } = Numbers::of(saved);
+        // "reads C, N and then two numbers for each of N nodes; its 13 gives the place of the first bad number"
+        let whole = values.get(1).map_or(2, |&n| 2 + 2 * n as usize);
+        let form = values.get(..whole).ok_or(wrong_at)?;
+        // "the count of saved bytes where every number reads but no writer produces the whole": a writer takes what passes
+        // the audit, and writes it so.
+        let written = |set: &Set| audit(&set.words()) == 0 && set.saved() == saved;
+        Set::understood(form).filter(written).ok_or(saved.len())
     }
 
-    /// What the bytes seem to hold. It asks only what it needs to make a set.
-    fn understood(saved: &[u8]) -> Option<Set> {
-        let (c, rest) = number(saved)?;
-        let (n, rest) = number(rest)?;
+    /// What the numbers seem to hold. It asks only what it needs to make a set.
+    fn understood(form: &[u32]) -> Option<Set> {
+        let (c, nodes) = (form[0], &form[2..]);
         let slots = c as usize;
         if slots == 0 || slots > MOST_SLOTS {
             return None;
         }
         let mut count = 0;
-        let tree = if n == 0 { None } else { Some(subtree(rest, &mut count)?.0) };
+        let tree = if nodes.is_empty() { None } else { Some(subtree(nodes, &mut count)?) };
         // "chains the rest upwards"; the head is last here
         let free = (count + 1..=c).rev().collect();
         (count <= c).then_some(Set { slots, tree, free })
@@ -43,23 +47,21 @@ fn add_nodes(e: &Edge, numbers: &mut Vec<u32>) {
     e.to.edges().iter().for_each(|below| add_nodes(below, numbers));
 }
 
-/// The first node with all that is below it, and the bytes after that. `count` nodes came before; it counts on, to no more
-/// than any pool has.
-fn subtree<'a>(saved: &'a [u8], count: &mut u32) -> Option<(Edge, &'a [u8])> {
-    let (first, rest) = number(saved)?;
-    let (key, rest) = number(rest)?;
+/// The node after `count` others, with all that is below it. It counts on, to no more than any pool has.
+fn subtree(nodes: &[u32], count: &mut u32) -> Option<Edge> {
+    let node = nodes.chunks(2).nth(*count as usize)?;
     *count += 1;
     let slot = *count;
     if slot as usize > MOST_SLOTS {
         return None;
     }
-    let weight = first / 2;
-    if first % 2 == 0 {
-        return Some((edge(weight, leaf(slot, key)), rest));
+    let (weight, key) = (node[0] / 2, node[1]);
+    if node[0] % 2 == 0 {
+        return Some(edge(weight, leaf(slot, key)));
     }
-    let (left, rest) = subtree(rest, count)?;
-    let (right, rest) = subtree(rest, count)?;
-    Some((edge(weight, inner(slot, key, left, right)), rest))
+    let left = subtree(nodes, count)?;
+    let right = subtree(nodes, count)?;
+    Some(edge(weight, inner(slot, key, left, right)))
 }
 
 /// Save on words.
@@ -81,12 +83,18 @@ pub fn load(words: &mut [u32], saved: &[u8]) -> Answer {
     let Some(c) = slots(words.len()) else {
         return (1, 0);
     };
-    let Some(set) = Set::restored(saved) else {
-        return (13, 0);
+    let set = match Set::restored(saved) {
+        Ok(set) => set,
+        Err(byte) => return (13, place(byte)),
     };
     if set.slots != c {
         return (14, 0);
     }
     words.copy_from_slice(&set.words());
     (0, set.nodes())
+}
+
+/// A byte's place as a number of 32 bits, the greatest for those past it.
+fn place(byte: usize) -> u32 {
+    u32::try_from(byte).unwrap_or(u32::MAX)
 }
