@@ -1,4 +1,5 @@
 pub mod Exports
 pub mod Restart
 pub mod Places
+pub mod Excess
 pub mod Decides

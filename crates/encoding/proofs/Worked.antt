@@ -22,7 +22,7 @@ use Rattle.encoding.specs.Batch.{lastArgument, onlyArgument, twoArgument
 use Rattle.tree.specs.declared.Kind.{Kind}
 use Rattle.tree.specs.Codes.{kindNumber}
 use Rattle.tree.specs.Tree.{Tree, leaf, node, slotOf, isLeaf, size, leaves, red, overweighted, one, count, countIn, level}
-use Rattle.tree.specs.Distances.{outside, ifRed, forRed, conflicts, redDistance, overDistance, overEdges, bound}
+use Rattle.tree.specs.Distances.{outside, ifRed, forRed, conflicts, redDistance, overDistance, excessWeight, bound}
 use Rattle.tree.specs.Kinds.{leftRed, rightRed, leftNotRed, rightNotRed, condition, blackened, singleLeft, singleRight, doubleLeft, doubleRight, lightened, lightenLeft, lightenRight, effect, holdsAt, changeAt, conditionAt, stepped, atLimit}
 use Rattle.tree.specs.Updates.{reach, reachedSlot, reachedKey, insertAt, newSlot, movedTo, Cut, cut, deleteAt}
 use Rattle.tree.specs.State.{State, state, Top, empty, full, nodes, upwards, prepared, Outcome, search, insertFirst, insertMore, insert, deleted, delete, leafAt, noInner, stepKind, stepNamed, step, report, figures, levelTop}
@@ -159,5 +159,5 @@ cases =
     ∷ []
 
 pub worked : allGiven cases ≡ allSaid cases
-unfolding cases allGiven allSaid redSlots headerOf slotAt slotsIn lengthGood inTree inChain inTop rootOf shownSlot spareOf shownHeader slotsFrom wordsOf isSlot follow chain chainEnds treeFound chainFound slotsOf bare all allFrom same rule-once freeWords rule-free children rule-children leafKeys routed rule-order wellWeighed rootWeighed rule-weights sumsOf rootSums rule-sums rule-spare rules allTrue rulesUnder foundWeight treeOf topOf stateUnder audited lastGroup below groups number lastArgument onlyArgument twoArguments argumentsAt meantAt operationAt commandAt after readFrom readBatch operation perform answersOf runAll answerWords filled called refused batchRead batch slotOf isLeaf size leaves red overweighted one count countIn level outside ifRed forRed conflicts redDistance overDistance overEdges bound leftRed rightRed leftNotRed rightNotRed condition blackened singleLeft singleRight doubleLeft doubleRight lightened lightenLeft lightenRight effect holdsAt changeAt conditionAt stepped atLimit reach reachedSlot reachedKey insertAt newSlot movedTo cut deleteAt nodes upwards prepared search insertFirst insertMore insert deleted delete leafAt noInner stepKind stepNamed step report figures levelTop allowed lowestKind lowestStep nextTree treesAfter lastOf settled settle
+unfolding cases allGiven allSaid redSlots headerOf slotAt slotsIn lengthGood inTree inChain inTop rootOf shownSlot spareOf shownHeader slotsFrom wordsOf isSlot follow chain chainEnds treeFound chainFound slotsOf bare all allFrom same rule-once freeWords rule-free children rule-children leafKeys routed rule-order wellWeighed rootWeighed rule-weights sumsOf rootSums rule-sums rule-spare rules allTrue rulesUnder foundWeight treeOf topOf stateUnder audited lastGroup below groups number lastArgument onlyArgument twoArguments argumentsAt meantAt operationAt commandAt after readFrom readBatch operation perform answersOf runAll answerWords filled called refused batchRead batch slotOf isLeaf size leaves red overweighted one count countIn level outside ifRed forRed conflicts redDistance overDistance excessWeight bound leftRed rightRed leftNotRed rightNotRed condition blackened singleLeft singleRight doubleLeft doubleRight lightened lightenLeft lightenRight effect holdsAt changeAt conditionAt stepped atLimit reach reachedSlot reachedKey insertAt newSlot movedTo cut deleteAt nodes upwards prepared search insertFirst insertMore insert deleted delete leafAt noInner stepKind stepNamed step report figures levelTop allowed lowestKind lowestStep nextTree treesAfter lastOf settled settle
 worked = refl

@@ -5,6 +5,7 @@ pub mod Replace
 pub mod Shown
 pub mod Performing
 pub mod Cover
+pub mod Weights
 pub mod RulesTests
 pub mod RulesSlots
 pub mod RulesSums

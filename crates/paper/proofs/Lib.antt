@@ -7,3 +7,4 @@ pub mod Effects
 pub mod Figures
 pub mod Updates
 pub mod Unnarrowed
+pub mod Overweight

@@ -1,11 +1,11 @@
 -- Source 003, Nurmi and Soisalon-Soininen, "Chromatic binary search trees", in its own terms: Section 2 with Definitions 1 and 2,
--- Section 3, and Section 4 as far as Definition 3. No slot, no pool, no code and no limit is here; Ours.antt says how document 01's trees
--- and kinds stand to it. Five laws compare the two, in proofs/: Chromatic, RedBlack, Accepts, Effects, Updates. The text that we have lacks the
+-- Section 3, Section 4 as far as Definition 3, and o(T) of what follows it. No slot, no pool, no code and no limit is here; Ours.antt says how document 01's trees
+-- and kinds stand to it. Six laws compare the two, in proofs/: Chromatic, RedBlack, Accepts, Effects, Updates, Overweight. The text that we have lacks the
 -- figures: what Fig. 2 shows of a rotation is said in words, and of those words proofs/Figures.antt proves what the paper reads from it.
 use mathlib.Core.Path.{_≡_}
 use mathlib.Core.Logic.{_≢_, _⊎_}
 use mathlib.Core.List.{List, [], _∷_}
-use Prim.Native.Nat.{ℕ, suc, pred, _+_, _≤_, _<_}
+use Prim.Native.Nat.{ℕ, suc, pred, _+_, _-_, _≤_, _<_, max}
 
 -- Section 2
 
@@ -134,6 +134,17 @@ pub data Conflict (v : FullTree) : Type 0 where
   red-red : {s d : Side} {a b : ℕ} {u t : FullTree} → Edge s v a u → Red a → Edge d u b t → Red b → Conflict v
   -- "If a node v has the child edges e1 = (v, u) and e2 = (v, t) and w(e1) > 1 or w(e2) > 1 there are overweight conflicts at v."
   overweight : {s : Side} {a : ℕ} {u : FullTree} → Edge s v a u → Overweighted a → Conflict v
+
+-- "The number of overweight conflicts at v is the sum of the overweight in its child edges, i.e. v has max(0, w(e1) - 1) + max(0, w(e2) - 1)
+-- overweight conflicts."
+unfoldable pub overweightAt : FullTree → ℕ
+overweightAt (leafOf k) = 0
+overweightAt (internal k a u b t) = max 0 (a - 1) + max 0 (b - 1)
+
+-- "o(T) is the number of overweight conflicts in T": those at each of its nodes
+unfoldable pub overweightIn : FullTree → ℕ
+overweightIn (leafOf k) = overweightAt (leafOf k)
+overweightIn (internal k a u b t) = overweightAt (internal k a u b t) + overweightIn u + overweightIn t
 
 pub data Case : Type 0 where
   case1 : Case

@@ -9,11 +9,11 @@ use mathlib.Core.List.{List}
 use Prim.Native.Nat.{ℕ, zero, suc, pred, _+_, _*_, _-_, _≤_}
 use native.Mathlib.Nat.{mul-le-mul, mul-le-mul-left}
 use native.Mathlib.Omega.{arith}
-use Rattle.tree.specs.Tree.{Tree, leaf, node, size, red, one, overweighted}
-use Rattle.tree.specs.Distances.{outside, ifRed, forRed, conflicts, redDistance, overDistance, overEdges}
-use Rattle.tree.proofs.Tests.{one-most, is-red}
+use Rattle.tree.specs.Tree.{Tree, leaf, node, size, red, one}
+use Rattle.tree.specs.Distances.{outside, ifRed, forRed, conflicts, redDistance, overDistance, excessWeight}
+use Rattle.tree.proofs.Tests.{is-red}
 use Rattle.tree.proofs.Below.{ifRed-le, forRed-times}
-use Rattle.tree.proofs.Limits.{widest, slots-within, edges-few, conflicts-few, red-distance-le, over-distance-le}
+use Rattle.tree.proofs.Limits.{widest, slots-within, conflicts-few, red-distance-le, excess-le, over-distance-le}
 use Rattle.format.specs.declared.Slot.{Slot}
 use Rattle.format.specs.Words.{slotAt}
 use Rattle.pool.specs.Walks.{mostSum}
@@ -48,11 +48,11 @@ unfolding redsIn size ifRed conflicts redDistance
 reds-node n s k wl wr l r = counted-eq refl (omega arith) (omega arith)
 
 pub overs-leaf : (n s k : ℕ) → loneLeaf ≡ oversIn n 1 (leaf s k)
-unfolding oversIn size one overweighted overEdges overDistance
+unfolding oversIn size excessWeight overDistance
 overs-leaf n s k = counted-eq refl (omega arith) (omega arith)
 
 pub overs-node : (n s k wl wr : ℕ) (l r : Tree) → joined (oversIn n wl l) (oversIn n wr r) ≡ oversIn n 1 (node s k wl l wr r)
-unfolding oversIn size one overweighted overEdges overDistance
+unfolding oversIn size excessWeight overDistance
 overs-node n s k wl wr l r = counted-eq refl (omega arith) (omega arith)
 
 -- A conflict is counted below a red edge only: so the rule of the edge that leads to a tree counts by the edge's weight.
@@ -85,11 +85,11 @@ counts-red {p} {n = n} {c = c} {x = x} {y} e z ex ey f g add S =
     let far-is : (one x + one y) * (n - size t) ≡ forRed (n - size t) t = rw own (sym (forRed-times (n - size t) t)) in
     add ∙ rw (g, f S) (counted-eq refl (omega (arith, own)) (omega (arith, far-is)))
 
--- .. and an overweighted edge counts once, and by its excess times outside(u).
-pub counts-over : {p : List ℕ} {s n left number times far : ℕ} {c : Slot} {u r : Counted} → c ≡ slotAt p s → number ≡ one (overweighted (c .weight)) → times ≡ pred (c .weight)
-    → Counts (λ w t. oversIn n 1 t) p s n left u → far ≡ n - u .nodes → r ≡ adding u number (times * far) → Counts (oversIn n) p s n left r
-unfolding oversIn one overweighted outside
-counts-over e k m f g add S = add ∙ rw (g, f S, k, m, standing-weight S e) (counted-eq refl (omega arith) (omega arith))
+-- .. and an edge counts by its excess, and by that times outside(u).
+pub counts-over : {p : List ℕ} {s n left above far : ℕ} {c : Slot} {u r : Counted} → c ≡ slotAt p s → above ≡ pred (c .weight)
+    → Counts (λ w t. oversIn n 1 t) p s n left u → far ≡ n - u .nodes → r ≡ adding u above (above * far) → Counts (oversIn n) p s n left r
+unfolding oversIn outside
+counts-over e m f g add S = add ∙ rw (g, f S, m, standing-weight S e) (counted-eq refl (omega arith) (omega arith))
 
 -- All these numbers are small: at most two conflicts at a node, and no edge weighs more than L and the root's edge.
 near : (m n : ℕ) → m ≤ widest → n ≤ widest → m * n ≤ widest * widest
@@ -119,7 +119,7 @@ module _ {p : List ℕ} {s n left : ℕ} (S : Standing p s n left) where
       let all = near n (size t) (omega (arith, S .few, slots-within)) (omega (arith, S .inside, S .few, slots-within)) in
       record {
         nodes-small = omega (arith, S .inside, S .few, slots-within);
-        number-small = omega (arith, edges-few t, one-most (overweighted w), S .inside, S .few, slots-within);
+        number-small = omega (arith, excess-le mostSum (S .weight) t (S .fine .chromatic) (omega (arith, S .fine .low)), mul-le-mul-left {m = size t} {n = widest} mostSum (omega (arith, S .inside, S .few, slots-within)));
         distance-small = omega arith;
       }
 
@@ -131,9 +131,9 @@ module _ {p : List ℕ} {s n left : ℕ} (S : Standing p s n left) where
   overs-small f = rw (f S) (overs-few (S .weight) (omega (arith, S .fine .low)))
 
   -- and what a node adds to them
-  fits : {u : Counted} {number times far : ℕ} → Small u → number ≤ 2 → times ≤ mostSum → far ≤ n → Fits u number (times * far)
-  fits {times = times} {far} c a b g =
-      let h = mul-le-mul {n₁ = times} {m₁ = far} {n₂ = mostSum} {m₂ = widest} b (omega (arith, S .few, slots-within)) in
+  fits : {u : Counted} {own far : ℕ} → Small u → own ≤ mostSum → far ≤ n → Fits u own (own * far)
+  fits {own = own} {far} c a g =
+      let h = mul-le-mul {n₁ = own} {m₁ = far} {n₂ = mostSum} {m₂ = widest} a (omega (arith, S .few, slots-within)) in
       record { number-fits = omega (arith, c .number-small); distance-fits = omega (arith, c .distance-small) }
 
   module _ {u : Counted} (f : Counts (λ w t. redsIn n 1 t) p s n left u) where
@@ -142,12 +142,12 @@ module _ {p : List ℕ} {s n left : ℕ} (S : Standing p s n left) where
     reds-inside = rw (f S) (S .inside)
 
     pub reds-fit : {own far : ℕ} → own ≤ 2 → far ≡ n - u .nodes → Fits u own (own * far)
-    reds-fit a g = fits (rw (f S) (reds-few 1)) a (omega arith) (omega arith)
+    reds-fit a g = fits (rw (f S) (reds-few 1)) (omega arith) (omega arith)
 
   module _ {u : Counted} (f : Counts (λ w t. oversIn n 1 t) p s n left u) where
     pub overs-inside : u .nodes ≤ n
     unfolding oversIn
     overs-inside = rw (f S) (S .inside)
 
-    pub overs-fit : {c : Slot} {number times far : ℕ} → c ≡ slotAt p s → number ≡ one (overweighted (c .weight)) → times ≡ pred (c .weight) → far ≡ n - u .nodes → Fits u number (times * far)
-    overs-fit {c} e k m g = fits (rw (f S) (overs-few 1 (omega arith))) (omega (arith, one-most (overweighted (c .weight)))) (omega (arith, standing-weight S e, S .fine .low)) (omega arith)
+    pub overs-fit : {c : Slot} {above far : ℕ} → c ≡ slotAt p s → above ≡ pred (c .weight) → far ≡ n - u .nodes → Fits u above (above * far)
+    overs-fit e m g = fits (rw (f S) (overs-few 1 (omega arith))) (omega (arith, standing-weight S e, S .fine .low)) (omega arith)

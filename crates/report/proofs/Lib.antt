@@ -1,4 +1,5 @@
 pub mod Counting
 pub mod Reports
 pub mod Exact
+pub mod Summed
 pub mod Decides

@@ -8,8 +8,8 @@ use native.Mathlib.Nat.{zero-lt-suc}
 use native.Mathlib.Omega.{arith}
 use lib.ListN.{length, List·getD-eq-default}
 use Rattle.tree.specs.declared.Figures.{Figures}
-use Rattle.tree.specs.Tree.{size, one, overweighted}
-use Rattle.tree.specs.Distances.{ifRed, conflicts, redDistance, overDistance, overEdges, bound, BoundFits}
+use Rattle.tree.specs.Tree.{size}
+use Rattle.tree.specs.Distances.{ifRed, conflicts, redDistance, overDistance, excessWeight, bound, BoundFits}
 use Rattle.tree.specs.State.{report, figures}
 use Rattle.tree.proofs.Limits.{slots-within, Fit, figures-fit}
 use Rattle.format.specs.declared.Header.{Header}
@@ -33,8 +33,8 @@ module _ {p : List ℕ} {h : Header} {l : ℕ} (R : Rooted p h l) where
     unfolding redsIn ifRed
     reds-are = A (R .standing) ∙ rw (R .nodes-are) (counted-eq refl (omega arith) (omega arith))
 
-    heavy-are : heavy ≡ counted (size (R .standing .tree)) (overEdges (R .standing .tree)) (overDistance (size (R .standing .tree)) (R .standing .tree))
-    unfolding oversIn one overweighted
+    heavy-are : heavy ≡ counted (size (R .standing .tree)) (excessWeight (R .standing .tree)) (overDistance (size (R .standing .tree)) (R .standing .tree))
+    unfolding oversIn
     heavy-are = B (R .standing) ∙ rw (R .nodes-are, R .weight-is) (counted-eq refl (omega arith) (omega arith))
 
     pub root-bound-fits : BoundFits (h .nodes) (heavy .distance) (reds .number) (reds .distance)
@@ -46,7 +46,7 @@ module _ {p : List ℕ} {h : Header} {l : ℕ} (R : Rooted p h l) where
 
     -- the seven numbers
     pub root-report : {n b : ℕ} → n ≡ h .nodes → b ≡ (3 * h .nodes + 1) * heavy .distance + 2 * h .nodes * reds .number + reds .distance
-        → record { nodes = n; level = l; overweighted = heavy .number; conflicts = reds .number; «over_distance» = heavy .distance; «red_distance» = reds .distance; bound = b }
+        → record { nodes = n; level = l; «excess_weight» = heavy .number; conflicts = reds .number; «over_distance» = heavy .distance; «red_distance» = reds .distance; bound = b }
         ≡ report ((stateOf p) .top)
     unfolding report bound
     root-report d e = rw (d, e, R .top-is, R .nodes-are, R .level-is, reds-are, heavy-are)

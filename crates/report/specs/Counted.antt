@@ -1,10 +1,10 @@
--- What the report's two walks down a tree ask for and answer: R and Q by below_red and below_other, overweighted edges and D by over.
+-- What the report's two walks down a tree ask for and answer: R and Q by below_red and below_other, excess weight and D by over.
 -- Only private functions cite this page; it serves RULES 6.6.
 use mathlib.Core.Path.{_≡_}
 use mathlib.Core.List.{List}
 use Prim.Native.Nat.{ℕ, pred, _+_, _*_, _≤_, _<_, _^_}
-use Rattle.tree.specs.Tree.{Tree, size, one, overweighted}
-use Rattle.tree.specs.Distances.{outside, ifRed, forRed, conflicts, redDistance, overDistance, overEdges}
+use Rattle.tree.specs.Tree.{Tree, size}
+use Rattle.tree.specs.Distances.{outside, ifRed, forRed, conflicts, redDistance, overDistance, excessWeight}
 use Rattle.pool.specs.Standing.{Standing}
 use Rattle.report.specs.declared.Counted.{Counted}
 
@@ -24,12 +24,12 @@ abbrev pub adding : Counted → ℕ → ℕ → Counted
 adding t number distance = counted (t .nodes) (number + t .number) (distance + t .distance)
 
 -- What is counted of a tree t that hangs from an edge of weight w, in a tree of n nodes. The red walk: the conflicts in t and those whose
--- upper edge is the one that t hangs from. The other: the overweighted edges in t and that edge. So an edge of weight 1 adds nothing.
+-- upper edge is the one that t hangs from. The other: what the edges in t and that edge weigh above 1. So an edge of weight 1 adds nothing.
 unfoldable pub redsIn : ℕ → ℕ → Tree → Counted
 redsIn n w t = counted (size t) (ifRed w (forRed 1 t) + conflicts t) (ifRed w (forRed (outside n t) t) + redDistance n t)
 
 unfoldable pub oversIn : ℕ → ℕ → Tree → Counted
-oversIn n w t = counted (size t) (one (overweighted w) + overEdges t) (pred w * outside n t + overDistance n t)
+oversIn n w t = counted (size t) (pred w + excessWeight t) (pred w * outside n t + overDistance n t)
 
 -- r is what f counts of whatever tree stands at slot s
 abbrev pub Counts : (ℕ → Tree → Counted) → List ℕ → ℕ → ℕ → ℕ → Counted → Type 0

@@ -1,11 +1,14 @@
--- Document 01 (RULES 6): what the report answers for any words, and the number that an index names.
+-- Documents 01 and 02 (RULES 6): what the report answers for any words, and the number that an index names.
+use mathlib.Core.Bool.{true, false}
 use mathlib.Core.List.{List}
+use lib.Dec.{eqb}
 use lib.ListN.{getD}
-use Prim.Native.Nat.{ℕ, zero, suc}
+use Prim.Native.Nat.{ℕ, zero, suc, pred}
 use Rattle.tree.specs.declared.Figures.{Figures}
 use Rattle.tree.specs.State.{zeros, report, figures}
 use Rattle.format.specs.declared.Audited.{Audited}
 use Rattle.format.specs.declared.Audited.the-variants.{Length, Broken, Passed}
+use Rattle.format.specs.Words.{freeWeight}
 use Rattle.format.specs.Audit.{stateOf, audited, auditedCode}
 use Rattle.report.specs.declared.Reported.{Reported}
 
@@ -26,3 +29,8 @@ reportOf p = let a = audited p in reported (auditedCode a) (figuresAfter p a)
 unfoldable pub figureAt : ℕ → Figures → ℕ
 figureAt zero f = 0
 figureAt (suc i) f = getD (figures f) i 0
+
+-- RULES 6.5, read off the words: what the fourth word of a slot adds to the third number, "weight less one", and nothing if it is a free
+-- slot's. (proofs/Summed.antt: the number is that of all slots, added up.)
+unfoldable pub excessWord : ℕ → ℕ
+excessWord w = elim (eqb w freeWeight) [ true ↦ 0 | false ↦ pred w ]

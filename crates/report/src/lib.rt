@@ -7,7 +7,7 @@ use slots::get_slot;
 use tree::Figures;
 ghost use mathlib.Core.Path.{_≡_};
 ghost use Prim.Native.Nat.{pred, _+_, _*_, _-_, _≤_};
-ghost use Rattle.tree.specs.Tree.{red, one, overweighted};
+ghost use Rattle.tree.specs.Tree.{red, one};
 ghost use Rattle.tree.specs.Distances.{BoundFits};
 ghost use Rattle.tree.specs.State.{zeros, report};
 ghost use Rattle.format.specs.Words.{slotAt};
@@ -22,7 +22,7 @@ const RED: u32 = 0;
 
 const BLACK: u32 = 1;
 
-// What a walk finds in a subtree: its nodes, how many things it counts there, and their distances added up.
+// What a walk finds in a subtree: its nodes, what it counts there, and the distances of that added up.
 struct Counted {
     nodes: u64,
     number: u64,
@@ -131,14 +131,7 @@ fn either(pool: &[u32], under_red: bool, s: u32, n: u32, left: u32) -> Counted
     }
 }
 
-// 01: "overweighted edges (an edge counts once however heavy)".
-fn over_edge(weight: u32) -> u64
-    ensures { λ r. ⌜ r ≡ one (overweighted weight) ⌝ }
-{
-    if BLACK < weight { 1 } else { 0 }
-}
-
-// What an edge weighs above 1.
+// 02 (iii): "weight less one", if the edge is overweighted.
 fn excess(weight: u32) -> u64
     ensures { λ r. ⌜ r ≡ pred weight ⌝ }
 {
@@ -149,8 +142,8 @@ fn excess(weight: u32) -> u64
     }
 }
 
-// 01: "D adds (weight - 1) times outside(u) over overweighted edges to u." The overweighted edges in the subtree at slot s and the one
-// to it. The root's weight is 1 and so counts in nothing.
+// 02 (iii): "The report's third number must be that sum." 01: "D adds (weight - 1) times outside(u) over overweighted edges to u." Of the
+// edges in the subtree at slot s and the one to it. The root's weight is 1 and so counts in nothing.
 fn over(pool: &[u32], s: u32, n: u32, left: u32) -> Counted
     requires { ⌜ Standing (now pool) s n left ⌝ }
     ensures { λ r. ⌜ Counts (oversIn n) (now (pool .entry)) s n left r ⌝ }
@@ -164,11 +157,8 @@ fn over(pool: &[u32], s: u32, n: u32, left: u32) -> Counted
             over(pool, c.right, n, left - 1),
         )
     };
-    adding(
-        u,
-        over_edge(c.weight),
-        excess(c.weight) * outside(n, u.nodes),
-    )
+    let above = excess(c.weight);
+    adding(u, above, above * outside(n, u.nodes))
 }
 
 // 01: "(3N+1)D + 2NR + Q".
@@ -190,7 +180,7 @@ impl Reported {
 
     pub const LEVEL: u32 = 2;
 
-    pub const OVERWEIGHTED: u32 = 3;
+    pub const EXCESS_WEIGHT: u32 = 3;
 
     pub const CONFLICTS: u32 = 4;
 
@@ -208,7 +198,7 @@ impl Reported {
         match index {
             Reported::NODES => f.nodes,
             Reported::LEVEL => f.level,
-            Reported::OVERWEIGHTED => f.overweighted,
+            Reported::EXCESS_WEIGHT => f.excess_weight,
             Reported::CONFLICTS => f.conflicts,
             Reported::OVER_DISTANCE => f.over_distance,
             Reported::RED_DISTANCE => f.red_distance,
@@ -224,7 +214,7 @@ fn zeros() -> Figures
     Figures {
         nodes: 0,
         level: 0,
-        overweighted: 0,
+        excess_weight: 0,
         conflicts: 0,
         over_distance: 0,
         red_distance: 0,
@@ -248,7 +238,7 @@ fn figures(pool: &[u32], h: Header, level: u32) -> Figures
     Figures {
         nodes: n,
         level: level as u64,
-        overweighted: heavy.number,
+        excess_weight: heavy.number,
         conflicts: reds.number,
         over_distance: heavy.distance,
         red_distance: reds.distance,

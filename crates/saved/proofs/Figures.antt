@@ -1,9 +1,9 @@
--- Sets that are alike but for their slots have the same report: N, L, overweighted edges, R, D, Q and the bound (`alike-report`). Assumes
+-- Sets that are alike but for their slots have the same report: N, L, excess weight, R, D, Q and the bound (`alike-report`). Assumes
 -- nothing.
 use mathlib.Core.Path.{_≡_, refl}
 use Prim.Native.Nat.{ℕ}
 use Rattle.tree.specs.Tree.{Tree, size}
-use Rattle.tree.specs.Distances.{outside, forRed, conflicts, redDistance, overDistance, overEdges, bound}
+use Rattle.tree.specs.Distances.{outside, forRed, conflicts, redDistance, overDistance, excessWeight, bound}
 use Rattle.tree.specs.State.{Top, report}
 use Rattle.saved.specs.Saved.{Alike, alike-leaf, alike-node, AlikeTop, alike-empty, alike-full}
 use Rattle.saved.proofs.Alike.{alike-size, alike-level}
@@ -33,13 +33,13 @@ unfolding overDistance
 alike-over-distance n alike-leaf = refl
 alike-over-distance n (alike-node a b) = rw (alike-outside n a, alike-outside n b, alike-over-distance n a, alike-over-distance n b)
 
-alike-edges : {t u : Tree} → Alike t u → overEdges u ≡ overEdges t
-unfolding overEdges
-alike-edges alike-leaf = refl
-alike-edges (alike-node a b) = rw (alike-edges a, alike-edges b)
+alike-excess : {t u : Tree} → Alike t u → excessWeight u ≡ excessWeight t
+unfolding excessWeight
+alike-excess alike-leaf = refl
+alike-excess (alike-node a b) = rw (alike-excess a, alike-excess b)
 
 pub alike-report : {t u : Top} → AlikeTop t u → report u ≡ report t
 unfolding report bound
 alike-report alike-empty = refl
 alike-report (alike-full {t = t} a) =
-    rw (alike-size a, alike-level a, alike-edges a, alike-conflicts a, alike-over-distance (size t) a, alike-red-distance (size t) a)
+    rw (alike-size a, alike-level a, alike-excess a, alike-conflicts a, alike-over-distance (size t) a, alike-red-distance (size t) a)

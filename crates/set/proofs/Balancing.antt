@@ -1,6 +1,6 @@
 -- Demand 3 over pools that pass the audit, by the report's own numbers: m accepted step calls in a row, of any slots and kinds, lower
 -- the report's seventh number by m or more (`steps-bounded`), so that they are at most (3N+1)D + 2NR + Q (`steps-few`); some call is
--- accepted until R and the overweighted edges are 0, and then none (`some-accepted`, `none-accepted`). Settle's steps lower it too
+-- accepted until R and the excess weight are 0, and then none (`some-accepted`, `none-accepted`). Settle's steps lower it too
 -- (`settle-falls`), its code is 0 exactly when it leaves a red-black tree (`settle-balanced`), a budget of that number is enough
 -- (`settle-enough`), and it takes no more steps than its budget, with code 12 as many (`settle-within`, `settle-spent`).
 -- Why: crate tree's Demand3.antt says so of sound States; the report of words that show one gives its numbers, and step and settle on
@@ -42,7 +42,7 @@ module _ {p : List ℕ} {S : State} (sound : Sound S) (shows : PoolShows p S) wh
   balanced-shown =
       let e = report-exact sound shows in
       let c : (reportOf p) .figures .conflicts ≡ (report (S .top)) .conflicts = ap (λ (r : Reported). r .figures .conflicts) e in
-      let o : (reportOf p) .figures .overweighted ≡ (report (S .top)) .overweighted = ap (λ (r : Reported). r .figures .overweighted) e in (
+      let o : (reportOf p) .figures .«excess_weight» ≡ (report (S .top)) .«excess_weight» = ap (λ (r : Reported). r .figures .«excess_weight») e in (
         λ b. record { no-conflict = sym c ∙ b .no-conflict; no-overweight = sym o ∙ b .no-overweight },
         λ b. record { no-conflict = c ∙ b .no-conflict; no-overweight = o ∙ b .no-overweight },
       )

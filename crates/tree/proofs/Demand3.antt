@@ -19,6 +19,7 @@ use Rattle.tree.proofs.KindNumbers.{named-known}
 use Rattle.tree.proofs.Steps.{step-whole}
 use Rattle.tree.proofs.StepState.{tree-good, tree-once, tree-slot, StepCase, refused, taken, stepping, step-sound-state, Accepted, accepted-iff}
 use Rattle.tree.proofs.Totals.{size-within}
+use Rattle.tree.proofs.Excess.{excess-none}
 use Rattle.tree.proofs.Limits.{widest, slots-within}
 use Rattle.tree.proofs.Bound.{bound-falls}
 use Rattle.tree.proofs.Progress.{red-black-bound, none-when-red-black, Accepts, accepts, step-until-red-black}
@@ -29,10 +30,10 @@ use Rattle.tree.proofs.Settled.{Held, settle-held, none-left-exactly, s
 abbrev pub boundOf : State → ℕ
 boundOf S = (report (S .top)) .bound
 
--- "Red-black means R = 0 and no overweighted edge", as the report gives them
+-- "Red-black means R = 0 and no overweighted edge", as the report gives them: an excess weight of 0
 pub record BalancedState (S : State) : Type 0 where
   pub no-conflict : (report (S .top)) .conflicts ≡ 0
-  pub no-overweight : (report (S .top)) .overweighted ≡ 0
+  pub no-overweight : (report (S .top)) .«excess_weight» ≡ 0
 
 bound-is : (S : State) (t : Tree) → S .top ≡ full t → boundOf S ≡ bound t
 unfolding report
@@ -41,8 +42,8 @@ bound-is S t e = rw e
 balanced-is : (S : State) (t : Tree) → S .top ≡ full t → BalancedState S ↔ RedBlack t
 unfolding report
 balanced-is S t e = (
-  λ b. record { no-conflict = rw e at (b .no-conflict); no-overweight = rw e at (b .no-overweight) },
-  λ r. record { no-conflict = rw e (r .no-conflict); no-overweight = rw e (r .no-overweight) },
+  λ b. record { no-conflict = rw e at (b .no-conflict); no-overweight = excess-none t .0 (rw e at (b .no-overweight)) },
+  λ r. record { no-conflict = rw e (r .no-conflict); no-overweight = rw e (excess-none t .1 (r .no-overweight)) },
 )
 
 balanced-empty : (S : State) → S .top ≡ empty → BalancedState S

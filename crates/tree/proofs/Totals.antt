@@ -3,11 +3,11 @@
 -- (`total-tree`, `total-top`, `total-chain`): so a tree has no more nodes than there are slots
 -- (`size-within`).
 -- Why: by induction on n, and on the tree or the chain; each slot from 1 to n adds 1 once. Assumes nothing.
-use mathlib.Core.Path.{_≡_, refl}
+use mathlib.Core.Path.{_≡_, refl, ap, _∙_}
 use mathlib.Core.List.{List, [], _∷_}
 use lib.Dec.{eqb}
 use lib.ListN.{length}
-use Prim.Native.Nat.{ℕ, zero, suc, _+_, _≤_, _<_}
+use Prim.Native.Nat.{ℕ, zero, suc, _+_, _*_, _≤_, _<_}
 use native.Mathlib.Omega.{arith}
 use Rattle.tree.specs.Tree.{Tree, leaf, node, size, one, count, countIn}
 use Rattle.tree.specs.State.{Top, empty, full, nodes, countTop}
@@ -23,7 +23,12 @@ unfolding total
 total-add f g zero = refl
 total-add f g (suc n) = omega (arith, total-add f g n)
 
-total-none : (n : ℕ) → total (λ s. 0) n ≡ 0
+pub total-same : (f g : ℕ → ℕ) (n : ℕ) → ((s : ℕ) → 1 ≤ s → s ≤ n → f s ≡ g s) → total f n ≡ total g n
+unfolding total
+total-same f g zero h = refl
+total-same f g (suc n) h = omega (arith, total-same f g n (λ s l m. h s l (omega arith)), h (suc n) (omega arith) (omega arith))
+
+pub total-none : (n : ℕ) → total (λ s. 0) n ≡ 0
 unfolding total
 total-none zero = refl
 total-none (suc n) = omega (arith, total-none n)
@@ -49,18 +54,22 @@ total-all f (suc n) h e s l m =
     (λ d. rw d (omega arith))
     (λ d. total-all f n h (omega arith) s l (omega arith))
 
--- the slots of a tree, and of a chain, counted
-total-past : (v n : ℕ) → n < v → total (λ s. one (eqb s v)) n ≡ 0
+-- f v, once
+total-past : (f : ℕ → ℕ) (v n : ℕ) → n < v → total (λ s. one (eqb s v) * f s) n ≡ 0
 unfolding total
-total-past v zero h = refl
-total-past v (suc n) h = omega (arith, total-past v n (omega arith), one-other (suc n) v (omega arith))
+total-past f v zero h = refl
+total-past f v (suc n) h = rw (one-other (suc n) v (omega arith)) (omega (arith, total-past f v n (omega arith)))
 
-total-one : (v n : ℕ) → 1 ≤ v → v ≤ n → total (λ s. one (eqb s v)) n ≡ 1
+pub total-at : (f : ℕ → ℕ) (v n : ℕ) → 1 ≤ v → v ≤ n → total (λ s. one (eqb s v) * f s) n ≡ f v
 unfolding total
-total-one v zero l h = absurd (omega arith)
-total-one v (suc n) l h = same-or-not (suc n) v
-    (λ e. omega (arith, one-same (suc n) v e, total-past v n (omega arith)))
-    (λ d. omega (arith, one-other (suc n) v d, total-one v n l (omega arith)))
+total-at f v zero l h = absurd (omega arith)
+total-at f v (suc n) l h = same-or-not (suc n) v
+    (λ e. rw (one-same (suc n) v e) (omega (arith, ap f e, total-past f v n (omega arith))))
+    (λ d. rw (one-other (suc n) v d) (omega (arith, total-at f v n l (omega arith))))
+
+-- the slots of a tree, and of a chain, counted
+total-one : (v n : ℕ) → 1 ≤ v → v ≤ n → total (λ s. one (eqb s v)) n ≡ 1
+total-one v n l h = total-same (λ s. one (eqb s v)) (λ s. one (eqb s v) * 1) n (λ s a b. omega arith) ∙ total-at (λ s. 1) v n l h
 
 -- a tree whose slots are from 1 to c
 abbrev pub SlotsWithin : ℕ → Tree → Type 0

@@ -17,7 +17,7 @@ use Rattle.tree.specs.Codes.{mostSlots, mostLevel, kindNumber, named}
 use Rattle.tree.specs.Tree.{Tree, leaf, node, isLeaf, size, leaves, count, countIn, keys, Ordered, level, Chromatic}
 use Rattle.tree.specs.Kinds.{holdsAt, conditionAt, stepped, atLimit}
 use Rattle.tree.specs.Updates.{reachedSlot, reachedKey, insertAt, newSlot, deleteAt}
-use Rattle.tree.specs.Distances.{conflicts, redDistance, overDistance, overEdges, bound}
+use Rattle.tree.specs.Distances.{conflicts, redDistance, overDistance, excessWeight, bound}
 
 -- "root slot (0 if empty)": nothing, or a tree
 pub data Top : Type 0 where
@@ -168,15 +168,15 @@ step s n S = elim (S .top) [
 
 -- an empty tree's numbers (RULES 6.9), and "seven zeros when refused"
 abbrev pub zeros : Figures
-zeros = record { nodes = 0; level = 0; overweighted = 0; conflicts = 0; «over_distance» = 0; «red_distance» = 0; bound = 0 }
+zeros = record { nodes = 0; level = 0; «excess_weight» = 0; conflicts = 0; «over_distance» = 0; «red_distance» = 0; bound = 0 }
 
--- RULES 6.9: "The report gives seven numbers: N, L, overweighted edges [..], R, D, Q, and (3N+1)D + 2NR + Q."
+-- RULES 6.9: "The report gives seven numbers: N, L, overweighted edges [..], R, D, Q, and (3N+1)D + 2NR + Q", the third by 02 (iii).
 unfoldable pub report : Top → Figures
 report empty = zeros
 report (full t) = record {
   nodes = size t;
   level = level t;
-  overweighted = overEdges t;
+  «excess_weight» = excessWeight t;
   conflicts = conflicts t;
   «over_distance» = overDistance (size t) t;
   «red_distance» = redDistance (size t) t;
@@ -185,4 +185,4 @@ report (full t) = record {
 
 -- the numbers in that order
 unfoldable pub figures : Figures → List ℕ
-figures f = f .nodes ∷ f .level ∷ f .overweighted ∷ f .conflicts ∷ f .«over_distance» ∷ f .«red_distance» ∷ f .bound ∷ []
+figures f = f .nodes ∷ f .level ∷ f .«excess_weight» ∷ f .conflicts ∷ f .«over_distance» ∷ f .«red_distance» ∷ f .bound ∷ []

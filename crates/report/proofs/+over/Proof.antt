@@ -19,7 +19,6 @@ use Rattle.report.proofs.excess.Reads as excess-reads
 use Rattle.report.proofs.joined.Reads as joined-reads
 use Rattle.report.proofs.lone_leaf.Reads as lone-leaf-reads
 use Rattle.report.proofs.outside.Reads as outside-reads
-use Rattle.report.proofs.over_edge.Reads as over-edge-reads
 use Rattle.report.proofs.+over.{statement}
 use Rattle.report.proofs.+over.Tie.{close}
 
@@ -33,7 +32,7 @@ abbrev over-below : ℕ → In 1 over-kinds.ps
 over-below t = and 1 over-kinds.ps (falls 1 over-kinds.ps _<_ μ-over t) over.Pre
 
 abbrev over-claims : ℕ → over-lts.Claims
-over-claims t = (get-slot-reads.Asked, get-slot-reads.Learnt, lone-leaf-reads.Asked, lone-leaf-reads.Learnt, over-below t, over.Post, joined-reads.Asked, joined-reads.Learnt, over-edge-reads.Asked, over-edge-reads.Learnt, excess-reads.Asked, excess-reads.Learnt, outside-reads.Asked, outside-reads.Learnt, adding-reads.Asked, adding-reads.Learnt)
+over-claims t = (get-slot-reads.Asked, get-slot-reads.Learnt, lone-leaf-reads.Asked, lone-leaf-reads.Learnt, over-below t, over.Post, joined-reads.Asked, joined-reads.Learnt, excess-reads.Asked, excess-reads.Learnt, outside-reads.Asked, outside-reads.Learnt, adding-reads.Asked, adding-reads.Learnt)
 
 -- What it has before the edge to it.
 under : (t : ℕ) (c : over-lts.Joined1 (over-claims t) (over-at t) over.Post)
@@ -53,8 +52,7 @@ pub +over-spec : {M : Type 1} → statement M
     (λ c κs. let K = standing-node (c .before .before .before .before .before .pre .1) (c .before .before .before .get-slot .ensures) (c .before .if1 .left) in (omega (arith, c .before .before .before .before .before .pre .0), K .on-right))
     (λ c κs. let K = standing-node (c .before .before .before .before .before .before .pre .1) (c .before .before .before .before .get-slot .ensures) (c .before .before .if1 .left) in (overs-small (K .on-left) (c .before .over .ensures), overs-small (K .on-right) (c .over2 .ensures)))
     (λ c κs. search needs)
-    (λ c κs. search needs)
-    (λ c κs. overs-inside (c .before .before .before .before .before .before .pre .1) (under t (c .before .before)))
-    (λ c. omega (arith, overs-fit (c .before .before .before .before .before .before .before .pre .1) (under t (c .before .before .before)) (c .before .before .before .before .before .get-slot .ensures) (c .before .before .over-edge .ensures) (c .before .excess .ensures) (c .outside .ensures) .distance-fits))
-    (λ c κs. overs-fit (c .before .before .before .before .before .before .before .pre .1) (under t (c .before .before .before)) (c .before .before .before .before .before .get-slot .ensures) (c .before .before .over-edge .ensures) (c .before .excess .ensures) (c .outside .ensures))
-    (λ c. counts-over (c .before .before .before .before .before .before .get-slot .ensures) (c .before .before .before .over-edge .ensures) (c .before .before .excess .ensures) (under t (c .before .before .before .before)) (c .before .outside .ensures) (c .adding .ensures))
+    (λ c κs. overs-inside (c .before .before .before .before .before .pre .1) (under t (c .before)))
+    (λ c. omega (arith, overs-fit (c .before .before .before .before .before .before .pre .1) (under t (c .before .before)) (c .before .before .before .before .get-slot .ensures) (c .before .excess .ensures) (c .outside .ensures) .distance-fits))
+    (λ c κs. overs-fit (c .before .before .before .before .before .before .pre .1) (under t (c .before .before)) (c .before .before .before .before .get-slot .ensures) (c .before .excess .ensures) (c .outside .ensures))
+    (λ c. counts-over (c .before .before .before .before .before .get-slot .ensures) (c .before .before .excess .ensures) (under t (c .before .before .before)) (c .before .outside .ensures) (c .adding .ensures))
