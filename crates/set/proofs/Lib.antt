@@ -1,5 +1,6 @@
 pub mod Passing
 pub mod Balancing
+pub mod Working
 pub mod Members
 pub mod Answers
 pub mod Leaves

@@ -10,6 +10,10 @@ use Rattle.steps.specs.Steps.{stepAnswer, stepWords}
 unfoldable pub boundNumber : List ℕ → ℕ
 boundNumber p = (reportOf p) .figures .bound
 
+-- The report's third number, the excess weight.
+unfoldable pub excessNumber : List ℕ → ℕ
+excessNumber p = (reportOf p) .figures .«excess_weight»
+
 -- "Red-black means R = 0 and no overweighted edge", by the report's fourth number and its third, the excess weight.
 pub record Balanced (p : List ℕ) : Type 0 where
   pub no-conflict : (reportOf p) .figures .conflicts ≡ 0

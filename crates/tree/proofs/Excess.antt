@@ -54,7 +54,7 @@ unfolding nine blackTree overEdges one overweighted
 nine-shows = refl
 
 pub nine-reported : figures (report (full nine)) ≡ 513 ∷ 9 ∷ 8 ∷ 0 ∷ 4096 ∷ 0 ∷ 6307840 ∷ []
-unfolding nine blackTree figures report size level excessWeight conflicts redDistance overDistance bound outside ifRed forRed
+unfolding nine blackTree figures report size level one overweighted excessWeight conflicts redDistance overDistance bound outside ifRed forRed
 nine-reported = refl
 
 -- it is what the audit rules ask

@@ -31,3 +31,4 @@ pub mod Deciding
 pub mod Decides
 pub mod Moves
 pub mod SettleAnswers
+pub mod Working
