@@ -22,8 +22,8 @@ extern "C" {
 /* The number of this interface; docs/INTERFACE.md says what each has. The function returns it. With GCC and Clang every file that
  * includes this header refers to the function, so that a program does not link with an archive of another interface; with
  * another compiler, call it once. */
-#define CHROMATIC_INTERFACE 3
-uint32_t chromatic_interface_3(void);
+#define CHROMATIC_INTERFACE 4
+uint32_t chromatic_interface_4(void);
 #ifdef __GNUC__
 __attribute__((used))
 #ifdef __has_attribute
@@ -31,7 +31,7 @@ __attribute__((used))
 __attribute__((retain)) /* from --gc-sections */
 #endif
 #endif
-static uint32_t (*const chromatic_interface_needed)(void) = chromatic_interface_3;
+static uint32_t (*const chromatic_interface_needed)(void) = chromatic_interface_4;
 #endif
 
 #ifdef __GNUC__
@@ -80,7 +80,8 @@ enum chromatic_operation {
 enum chromatic_figure {
     CHROMATIC_NODES = 1,         /* N */
     CHROMATIC_LEVEL = 2,         /* L */
-    CHROMATIC_OVERWEIGHTED = 3,  /* edges above weight 1 */
+    CHROMATIC_EXCESS_WEIGHT = 3, /* the sum of weight less one over the edges above weight 1: one leaf of weight 9 gives 8; 0 exactly
+                                  * where there is no such edge */
     CHROMATIC_CONFLICTS = 4,     /* R */
     CHROMATIC_OVER_DISTANCE = 5, /* D */
     CHROMATIC_RED_DISTANCE = 6,  /* Q */

@@ -39,8 +39,12 @@ pub struct Report {
     pub nodes: u64,
     /// L, the sum of weights from the root, whose own does not count, to any leaf.
     pub level: u64,
-    /// Edges above weight 1; each counts once however heavy.
-    pub overweighted: u64,
+    /// The excess weight: the sum of weight less one over the overweighted edges, those above weight 1, which is o(T) of Nurmi
+    /// and Soisalon-Soininen's paper. One leaf of weight 9 gives 8, and eight units have to be worked off. It is 0 exactly where
+    /// no edge is overweighted; no step raises it, and settling to the end takes at least half as many steps.
+    ///
+    /// Proved: `excess-returned`, `excess-none-returned`, `steps-work`, `settle-takes`.
+    pub excess_weight: u64,
     /// R, the red-red conflicts.
     pub conflicts: u64,
     /// D, the sum of (weight - 1) times the nodes outside, over overweighted edges.
@@ -63,7 +67,7 @@ impl Report {
     /// Proved: `none-accepted`, `some-accepted`.
     #[must_use]
     pub fn red_black(&self) -> bool {
-        self.conflicts == 0 && self.overweighted == 0
+        self.conflicts == 0 && self.excess_weight == 0
     }
 
     /// A budget with which settle ends, if one fits a command: no more than `bound` steps can be accepted before the
@@ -258,7 +262,7 @@ impl<W: Words> Pool<W> {
         Ok(Report {
             nodes: self.figure(1)?,
             level: self.number(2),
-            overweighted: self.number(3),
+            excess_weight: self.number(3),
             conflicts: self.number(4),
             over_distance: self.number(5),
             red_distance: self.number(6),

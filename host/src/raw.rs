@@ -7,7 +7,7 @@
 
 mod c {
     extern "C" {
-        pub fn chromatic_interface_3() -> u32;
+        pub fn chromatic_interface_4() -> u32;
         pub fn chromatic_prepare(pool: *mut u32, pool_len: usize) -> u32;
         pub fn chromatic_audit(pool: *const u32, pool_len: usize) -> u32;
         pub fn chromatic_report(pool: *const u32, pool_len: usize, index: u32) -> u64;
@@ -24,12 +24,12 @@ mod c {
     }
 }
 
-/// The number of the interface that this crate is made for, 3; docs/INTERFACE.md says what each number has. The library's
+/// The number of the interface that this crate is made for, 4; docs/INTERFACE.md says what each number has. The library's
 /// function is named for it, and every function here calls it, so that an archive of another interface does not link.
 #[must_use]
 pub fn interface() -> u32 {
     // SAFETY: it takes nothing and changes nothing.
-    unsafe { c::chromatic_interface_3() }
+    unsafe { c::chromatic_interface_4() }
 }
 
 /// Makes a pool empty. Gives 0; or 1, changing nothing, if the length is not 4 + 4C with C from 1 to 1,023. (C slots hold
@@ -51,8 +51,10 @@ pub fn audit(pool: &[u32]) -> u32 {
     unsafe { c::chromatic_audit(pool.as_ptr(), pool.len()) }
 }
 
-/// Number `index` of the report, 1 first: N, L, overweighted edges, R, D, Q, bound. Gives 0 for a refused pool and for
-/// any other index.
+/// Number `index` of the report, 1 first: N, L, excess weight ([`Report::excess_weight`](crate::Report::excess_weight)), R, D,
+/// Q, bound. Gives 0 for a refused pool and for any other index.
+///
+/// Proved: `excess-returned`, `excess-none-returned`.
 #[must_use]
 pub fn report(pool: &[u32], index: u32) -> u64 {
     let _ = interface();

@@ -23,6 +23,7 @@ dependent() {
     one "the crate with std: a saved set as a Vec" "$log" with_std
     one "README.md's line for C" "$log" line_for_c
     one "in C a result that is not used is a warning" "$log" c_unused
+    one "in C the old name of the third figure, which has another meaning now, does not compile" "$log" c_old_figure
     if [ -n "$shipped" ]; then one "the library calls no allocator" "$log" no_allocator; fi
     one "a dependent's build script is told where the C header is" "$log" header_found
 }
@@ -221,6 +222,16 @@ c_unused() {
         ! cc -Wall -Werror -I "$root/host/include" -c -o "$strange/c.o" "$strange/unused.c" >"$strange/said" 2>&1 || { echo "no warning: $call"; return 1; }
         grep -q unused-result "$strange/said" || { cat "$strange/said"; return 1; }
     done
+}
+
+c_old_figure() {
+    printf '#include <chromatic.h>\nuint64_t f(const uint32_t *p) { return chromatic_report(p, 8, CHROMATIC_EXCESS_WEIGHT); }\n' >"$strange/new.c"
+    sed 's/EXCESS_WEIGHT/OVERWEIGHTED/' "$strange/new.c" >"$strange/old.c"
+    cc -Wall -Werror -I "$root/host/include" -c -o "$strange/c.o" "$strange/new.c" || return 1
+    ! cc -I "$root/host/include" -c -o "$strange/c.o" "$strange/old.c" >"$strange/said" 2>&1 || { echo "it compiles"; return 1; }
+    cat "$strange/said"
+    # and the compiler does not put the new name in its place: whoever took that would not read what it means
+    grep -q CHROMATIC_OVERWEIGHTED "$strange/said" && ! grep -q CHROMATIC_EXCESS_WEIGHT "$strange/said"
 }
 
 no_allocator() {

@@ -1,5 +1,5 @@
-/* The header compiles as C and C++, and its declarations fit the archive: P1, P6, a set saved and loaded, the order of refusals, the places
- * where a batch and saved bytes go wrong, NULL with length 0. */
+/* The header compiles as C and C++, and its declarations fit the archive: P1, P6, a set saved and loaded, the excess weight, the order of
+ * refusals, the places where a batch and saved bytes go wrong, NULL with length 0. */
 #include "../include/chromatic.h"
 #include <stdio.h>
 #include <string.h>
@@ -30,7 +30,7 @@ static void numbers(void) {
                          CHROMATIC_KEY_PRESENT, CHROMATIC_KEY_ABSENT, CHROMATIC_NO_ROOM, CHROMATIC_NO_INNER_NODE, CHROMATIC_NO_KIND,
                          CHROMATIC_CONDITION_FALSE, CHROMATIC_TOO_TALL, CHROMATIC_BUDGET_SPENT, CHROMATIC_BAD_SAVED, CHROMATIC_NO_FIT};
     const int operations[] = {CHROMATIC_SEARCH, CHROMATIC_INSERT, CHROMATIC_DELETE, CHROMATIC_STEP, CHROMATIC_SETTLE};
-    const int figures[] = {CHROMATIC_NODES, CHROMATIC_LEVEL, CHROMATIC_OVERWEIGHTED, CHROMATIC_CONFLICTS, CHROMATIC_OVER_DISTANCE,
+    const int figures[] = {CHROMATIC_NODES, CHROMATIC_LEVEL, CHROMATIC_EXCESS_WEIGHT, CHROMATIC_CONFLICTS, CHROMATIC_OVER_DISTANCE,
                            CHROMATIC_RED_DISTANCE, CHROMATIC_BOUND};
     int i;
     for (i = 0; i <= 14; i++) check(codes[i] == i, "codes are 0 to 14");
@@ -145,6 +145,22 @@ static void over_a_restart(const uint32_t *pool, size_t words) {
     check(CHROMATIC_CODE(chromatic_load(NOTHING, 0, NOTHING, 0)) == CHROMATIC_WRONG_LENGTH, "load at NULL");
 }
 
+/* Two leaves of weight 9 below the root: eight units each, and settling works off one of both at a step. */
+static void excess_weight(void) {
+    const uint8_t saved[] = {3, 3, 3, 10, 18, 10, 18, 20}, seven[] = {CHROMATIC_SETTLE, 7}, one[] = {CHROMATIC_SETTLE, 1};
+    uint32_t pool[CHROMATIC_POOL_WORDS(3)], answer[CHROMATIC_ANSWER_WORDS] = {0};
+    const size_t words = sizeof pool / sizeof pool[0];
+
+    check(chromatic_load(pool, words, saved, sizeof saved) == 3, "load of two heavy leaves");
+    check(chromatic_report(pool, words, CHROMATIC_EXCESS_WEIGHT) == 16, "the excess weight");
+    check(chromatic_report(pool, words, CHROMATIC_OVER_DISTANCE) == 32, "D");
+    check(chromatic_report(pool, words, CHROMATIC_BOUND) == 320, "the bound");
+    check(chromatic_batch(pool, words, seven, sizeof seven, answer, 2) == 0 && answer[0] == CHROMATIC_BUDGET_SPENT, "seven steps");
+    check(chromatic_report(pool, words, CHROMATIC_EXCESS_WEIGHT) == 2, "the excess weight after seven steps");
+    check(chromatic_batch(pool, words, one, sizeof one, answer, 2) == 0 && answer[0] == CHROMATIC_GOOD, "the last step");
+    check(chromatic_report(pool, words, CHROMATIC_EXCESS_WEIGHT) == 0, "no excess weight is left");
+}
+
 int main(void) {
     uint32_t pool[CHROMATIC_POOL_WORDS(7)];
     uint32_t answers[7 * CHROMATIC_ANSWER_WORDS] = {0};
@@ -169,11 +185,12 @@ int main(void) {
     for (index = 0; index <= CHROMATIC_BOUND + 1; index++)
         check(chromatic_report(pool, words, index) == figures[index], "report");
     over_a_restart(pool, words);
+    excess_weight();
     refused = chromatic_batch(pool, words, batch, sizeof batch - 1, answers, 0);
     check(CHROMATIC_CODE(refused) == CHROMATIC_BAD_COMMAND && CHROMATIC_NUMBER(refused) == 13, "bad command");
     refused = chromatic_batch(pool, words, batch, sizeof batch, answers, room - 1);
     check(refused == UINT64_C(4294967296) * CHROMATIC_FEW_ANSWERS, "few answers");
-    check(chromatic_interface_3() == CHROMATIC_INTERFACE, "the interface's number");
+    check(chromatic_interface_4() == CHROMATIC_INTERFACE, "the interface's number");
     check(chromatic_batch(pool, words, two_hundred, sizeof two_hundred, answers, room) == 0 && answers[0] == CHROMATIC_KEY_ABSENT, "200 in two bytes");
 
     check(chromatic_batch(pool, words, NOTHING, 0, NOTHING, 0) == 0, "an empty batch at NULL");

@@ -3,8 +3,8 @@
 -- passes the audit, whose report has code 0; of another the number is 0 (Exact.antt: `number-refused`).
 -- Why: crate format's Weights.antt adds up over slots what is added up over edges, and crate tree's Excess.antt says of a tree when the sum
 -- is 0. Assumes nothing.
-use mathlib.Core.Path.{_≡_, refl, sym, ap, _∙_}
-use mathlib.Core.Logic.{_↔_, _≢_}
+use mathlib.Core.Path.{_≡_, refl, sym, _∙_}
+use mathlib.Core.Logic.{_↔_}
 use mathlib.Core.List.{List}
 use native.Mathlib.Omega.{arith}
 use borrow.Author.Tests.{ne-eqb}
@@ -15,7 +15,7 @@ use Rattle.tree.specs.State.{State, Top, empty, full, Sound, report, figures}
 use Rattle.tree.proofs.Totals.{total}
 use Rattle.tree.proofs.Excess.{excess-none}
 use Rattle.tree.proofs.Demand3.{sound-held}
-use Rattle.format.specs.Words.{freeWeight, slotsIn}
+use Rattle.format.specs.Words.{freeWeight}
 use Rattle.format.specs.Shows.{PoolShows}
 use Rattle.format.proofs.Weights.{weighed, weighedTop, weightOf, weights-added}
 use Rattle.report.specs.Report.{reportOf, figureAt, excessWord}

@@ -23,8 +23,8 @@ unsafe fn lent_mut<'a, T>(pointer: *mut T, len: usize) -> &'a mut [T] {
 }
 
 #[no_mangle]
-pub extern "C" fn chromatic_interface_3() -> u32 {
-    3
+pub extern "C" fn chromatic_interface_4() -> u32 {
+    4
 }
 
 /// # Safety

@@ -7,7 +7,7 @@ use crate::pool::{audit, level, nodes, read, root, Slot};
 #[derive(Default)]
 struct Sums {
     nodes: u64,
-    overweighted: u64,
+    excess_weight: u64,
     conflicts: u64,
     red_distance: u64,
     over_distance: u64,
@@ -21,7 +21,7 @@ fn children(pool: &[u32], v: Slot, n: u64) -> Sums {
     let (left, right) = (below(pool, v.left, n), below(pool, v.right, n));
     Sums {
         nodes: left.nodes + right.nodes + 1,
-        overweighted: left.overweighted + right.overweighted,
+        excess_weight: left.excess_weight + right.excess_weight,
         conflicts: left.conflicts + right.conflicts,
         red_distance: left.red_distance + right.red_distance,
         over_distance: left.over_distance + right.over_distance,
@@ -49,8 +49,9 @@ fn below_red(pool: &[u32], v: Slot, n: u64) -> Sums {
 fn below_other(pool: &[u32], v: Slot, n: u64) -> Sums {
     let mut sums = children(pool, v, n);
     if v.weight > 1 {
-        sums.overweighted += 1;
-        sums.over_distance += (u64::from(v.weight) - 1) * (n - sums.nodes);
+        let excess = u64::from(v.weight) - 1;
+        sums.excess_weight += excess;
+        sums.over_distance += excess * (n - sums.nodes);
     }
     sums
 }
@@ -67,7 +68,7 @@ pub fn report(pool: &[u32], index: u32) -> u64 {
     }
     let sums = if n == 0 { Sums::default() } else { below_other(pool, read(pool, root(pool)), n) };
     match index {
-        3 => sums.overweighted,
+        3 => sums.excess_weight,
         4 => sums.conflicts,
         5 => sums.over_distance,
         6 => sums.red_distance,

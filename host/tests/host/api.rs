@@ -41,7 +41,7 @@ fn worked_cases_as_types() -> Result<(), Refused> {
         assert_eq!(newly(pool.insert(key)?), (key, slot));
     }
     let report = pool.report()?;
-    assert_eq!((report.nodes, report.level, report.overweighted, report.conflicts), (7, 1, 0, 1));
+    assert_eq!((report.nodes, report.level, report.excess_weight, report.conflicts), (7, 1, 0, 1));
     assert_eq!((report.over_distance, report.red_distance, report.bound), (0, 2, 16));
     assert_eq!((report.keys(), report.red_black(), report.settle_budget()), (4, false, 16));
     assert_eq!((pool.keys()?, pool.bound()?), (4, 16));
@@ -54,13 +54,30 @@ fn worked_cases_as_types() -> Result<(), Refused> {
     assert_eq!(pool.step(1, Kind::One)?, Stepped::Taken);
     assert_eq!(pool.delete(10)?, Deleted::Cleared { keys_left: 4 });
     let report = pool.report()?;
-    assert_eq!((report.overweighted, report.conflicts, report.red_black()), (1, 0, false));
+    assert_eq!((report.excess_weight, report.conflicts, report.red_black()), (1, 0, false));
     assert_eq!(pool.delete(10)?, Deleted::KeyAbsent);
     assert_eq!(pool.settle(1)?, Settled::BudgetSpent { steps: 1 });
     assert_eq!(pool.settle(9)?, Settled::RedBlack { steps: 1 });
     assert!(pool.report()?.red_black());
     assert_eq!(pool.search(20)?, Searched::Marked { slot: 3 });
     pool.audit()
+}
+
+/// Two leaves of weight 9 below the root: eight units each, and settling works off one of both at a step.
+#[test]
+fn excess_weight_is_worked_off() -> Result<(), Refused> {
+    // C, N, then each node: twice the weight, plus 1 for an inner node, and the key or router
+    let mut pool = Pool::load(vec![77; Pool::words_for(3)], &[3, 3, 3, 10, 18, 10, 18, 20])?;
+    let report = pool.report()?;
+    assert_eq!((report.level, report.excess_weight, report.over_distance, report.bound), (9, 16, 32, 320));
+    assert!(!report.red_black());
+    assert_eq!(pool.settle(7)?, Settled::BudgetSpent { steps: 7 });
+    let report = pool.report()?;
+    assert_eq!((report.level, report.excess_weight, report.red_black()), (2, 2, false));
+    assert_eq!(pool.settle(7)?, Settled::RedBlack { steps: 1 });
+    let report = pool.report()?;
+    assert_eq!((report.level, report.excess_weight, report.red_black()), (1, 0, true));
+    Ok(())
 }
 
 #[test]
@@ -698,6 +715,10 @@ fn public_types_are_shown() -> Result<(), Refused> {
     assert_eq!(format!("{answers:?}"), "Answers { left: 1, to: [Insert { key: 7 }], .. }");
     assert_eq!(format!("{:?}", answers.next()), "Some(Insert { key: 7, answer: NewlyMarked(Mark { key: 7, slot: 1 }) })");
     assert_eq!(format!("{pool:?}"), "Pool { slots: 9, .. }");
+    assert_eq!(
+        format!("{:?}", pool.report()?),
+        "Report { nodes: 1, level: 0, excess_weight: 0, conflicts: 0, over_distance: 0, red_distance: 0, bound: 0 }"
+    );
     Ok(())
 }
 

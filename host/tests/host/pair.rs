@@ -71,6 +71,14 @@ pub fn same_on(words: &[u32]) -> u32 {
     code
 }
 
+/// Read straight off a sound pool's words: how many edges are above weight 1, and the sum of weight less one over them. (The root's
+/// weight is 1, and a free slot's no weight.)
+pub fn overweight(words: &[u32]) -> (u64, u64) {
+    let weights = words[4..].chunks(4).map(|slot| slot[3]);
+    let heavy: Vec<u64> = weights.filter(|&weight| weight > 1 && weight != u32::MAX).map(u64::from).collect();
+    (heavy.len() as u64, heavy.iter().map(|weight| weight - 1).sum())
+}
+
 /// The batch by both on copies of the words, with room for some answer words; every word afterwards. What was answered.
 pub fn same_batch(words: &[u32], bytes: &[u8], room: usize) -> Answer {
     let untouched: Vec<u32> = (0..room as u32).map(|i| UNTOUCHED + i).collect();
@@ -187,9 +195,10 @@ impl Pair {
         assert_eq!(twin::audit(&self.words), 0, "the twin's audit of {:?}", self.words);
     }
 
-    /// All that can be asked, and that the twin reads back its own set.
+    /// All that can be asked, the third number also off the words, and that the twin reads back its own set.
     pub fn look(&self) {
         assert_eq!(same_on(&self.words), 0);
+        assert_eq!(self.report()[2], overweight(&self.words).1, "the excess weight of {:?}", self.words);
         assert_eq!(twin::read(&self.words).as_ref(), Ok(&self.twin), "the set read back");
     }
 

@@ -1,6 +1,6 @@
 //! Random commands, one at a time and in batches, by the library and the twin; the audit after every command.
 
-use crate::pair::{library_batch, same_batch, Pair, Seen};
+use crate::pair::{library_batch, overweight, same_batch, Pair, Seen};
 use crate::pools::{grown, some_keys, Weights, SHAPES, WEIGHTS};
 use crate::rng::Rng;
 use crate::twin::{write_number, Command, Set, MOST_SLOTS};
@@ -185,7 +185,8 @@ fn grown_pools() {
     assert!(share() > 1 || seen.kinds[1..].iter().all(|&k| k > 100), "each kind is accepted");
 }
 
-/// Every allowed step of every grown pool, one at a time until none is left, never more than the first report's bound.
+/// Every allowed step of every grown pool, one at a time until none is left, never more than the first report's bound; none raises the
+/// excess weight, or takes off more than one unit of each of two edges.
 #[test]
 fn steps_end_within_the_bound() {
     compared("steps to the end", 2000, 20, |rng, seen| {
@@ -196,6 +197,7 @@ fn steps_end_within_the_bound() {
                 let mut pair = Pair::holding(grown(rng, 25, &keys, level, shape, weights));
                 let bound = pair.report()[6];
                 let mut taken = 0;
+                let mut excess = pair.report()[2];
                 loop {
                     let allowed = pair.twin.allowed();
                     if allowed.is_empty() {
@@ -205,11 +207,55 @@ fn steps_end_within_the_bound() {
                     pair.run_seen(Command::Step(slot, kind), seen);
                     taken += 1;
                     assert!(taken <= bound, "{taken} steps with a bound of {bound}");
+                    let before = std::mem::replace(&mut excess, pair.report()[2]);
+                    assert!((excess..=excess + 2).contains(&before), "kind {kind}: the excess weight was {before} and is {excess}");
                 }
                 assert_eq!(pair.report()[2..4], [0, 0], "red-black at the end");
             }
         }
     });
+}
+
+/// 02 (iii): the third number is "the sum of weight less one", and "0 under the same trees as before": those with no edge above weight 1.
+#[test]
+fn excess_weight_is_read_off_the_words() {
+    // Pools with no such edge, with one for each unit, and with fewer: there some edge weighs more than 2.
+    let [mut none, mut as_many, mut fewer] = [0u64; 3];
+    let mut hold = |pair: &Pair| {
+        let third = pair.report()[2];
+        let (edges, excess) = overweight(&pair.words);
+        assert_eq!(third, excess, "the excess weight of {:?}", pair.words);
+        assert_eq!(third == 0, edges == 0, "{edges} overweighted edges in {:?}", pair.words);
+        match edges {
+            0 => none += 1,
+            _ if edges == excess => as_many += 1,
+            _ => fewer += 1,
+        }
+    };
+    let mut run = |rng: &mut Rng, mut pair: Pair, seen: &mut Seen| {
+        hold(&pair);
+        let (mix, span) = (rng.pick(&MIXES), pair.twin.slots as u32);
+        for _ in 0..100 {
+            let next = command(rng, &pair.twin, &mix, span);
+            pair.run_seen(next, seen);
+            hold(&pair);
+        }
+    };
+    compared("excess weight", 20_000, 60, |rng, seen| {
+        for slots in SMALL {
+            run(rng, Pair::prepared(slots), seen);
+        }
+        for shape in SHAPES {
+            for weights in WEIGHTS {
+                let keys = some_keys(rng, 12, 25);
+                let level = rng.pick(&[1, 2, 3, 9, 255]);
+                let pair = Pair::holding(grown(rng, 25, &keys, level, shape, weights));
+                run(rng, pair, seen);
+            }
+        }
+    });
+    println!("compared pools with no overweighted edge: {none}; one for each unit of excess weight: {as_many}; fewer: {fewer}");
+    assert!(share() > 1 || [none, as_many, fewer].iter().all(|&pools| pools > 1000), "each is met");
 }
 
 #[test]

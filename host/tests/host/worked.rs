@@ -1,7 +1,7 @@
 //! The cases that document 01 works by hand, those of DESIGN.md, and further ones for kinds that those leave out; the
-//! saved forms of some of them.
+//! saved forms of some of them; 02's leaf of weight 9.
 
-use crate::pair::{library_batch, same_batch, same_load, same_save, Lent, Pair};
+use crate::pair::{library_batch, overweight, same_batch, same_load, same_on, same_save, Lent, Pair};
 use crate::twin::{self, edge, inner, leaf, Command, Edge, Set};
 use chromatic::raw;
 use Command::{Delete, Insert, Search, Settle, Step};
@@ -433,5 +433,138 @@ fn order_of_refusals_of_load() {
         (40, &p1, (0, 7)),
     ] {
         assert_eq!(same_load(&vec![7; words], bytes).0, want, "{bytes:02X?} into {words} words");
+    }
+}
+
+/// A complete tree of 2 to the power `levels` leaves, every edge of weight 1 and the one to it too. Its slots go on from `first`, a node
+/// before its left subtree before its right.
+fn complete(first: u32, levels: u32) -> Edge {
+    if levels == 0 {
+        return edge(1, leaf(first, 0));
+    }
+    let left = complete(first + 1, levels - 1);
+    edge(1, inner(first, 0, left, complete(first + (1 << levels), levels - 1)))
+}
+
+/// The root in slot 1 over both, and no slot free.
+fn below_the_root(left: Edge, right: Edge) -> Pair {
+    let mut tree = edge(1, inner(1, 0, left, right));
+    let mut keys = 0;
+    number_keys(&mut tree, &mut keys);
+    Pair::holding(Set { slots: 2 * keys as usize - 1, tree: Some(tree), free: vec![] })
+}
+
+fn two_leaves(weight: u32) -> Pair {
+    below_the_root(edge(weight, leaf(2, 0)), edge(weight, leaf(3, 0)))
+}
+
+/// The report of a tree with one leaf of weight 9 and 256 of weight 1: D is 8 times 512, the bound 1,540 times D.
+const ONE_LEAF_OF_WEIGHT_9: [u64; 7] = [513, 9, 8, 0, 4096, 0, 6_307_840];
+
+/// Its third number after each step of settle, of which there are eight.
+const EIGHT_WORKED_OFF: [u64; 8] = [7, 6, 5, 4, 3, 2, 1, 0];
+
+/// Settles one step at a time to the end: the third number after each.
+fn settled_singly(pair: &mut Pair) -> Vec<u64> {
+    let mut thirds = vec![];
+    loop {
+        let (code, taken) = pair.run(Settle(1));
+        assert_eq!(taken, 1);
+        thirds.push(pair.report()[2]);
+        if code == 0 {
+            return thirds;
+        }
+    }
+}
+
+/// 02 (iii): "One leaf of weight 9 shows as 1, and then eight units have to be worked off." No smaller tree has such a leaf and no other
+/// overweighted edge: L is 9, and so the root's other side has 256 leaves.
+#[test]
+fn one_leaf_of_weight_9() {
+    let on_the_left = below_the_root(edge(9, leaf(2, 0)), complete(3, 8));
+    let on_the_right = below_the_root(complete(2, 8), edge(9, leaf(513, 0)));
+    for mut pair in [on_the_left, on_the_right] {
+        assert_eq!(overweight(&pair.words), (1, 8));
+        assert_eq!(pair.report(), ONE_LEAF_OF_WEIGHT_9);
+        pair.look();
+        assert_eq!(settled_singly(&mut pair), EIGHT_WORKED_OFF);
+    }
+}
+
+/// The same as a host comes to it: 512 keys, every edge black, are loaded, and of the 256 on the left all but the last are deleted, with
+/// nothing settled.
+#[test]
+fn deletes_lead_to_a_leaf_of_weight_9() {
+    let mut pair = below_the_root(complete(2, 8), complete(513, 8));
+    assert_eq!(pair.report(), [1023, 9, 0, 0, 0, 0, 0]);
+    let bytes = saved(&pair, 7165);
+    assert_eq!(same_load(&[0xDEAD_BEEF; 4096], &bytes), ((0, 1023), pair.words.clone()));
+    for deleted in 1..=255 {
+        assert_eq!(pair.run(Delete(deleted)), (0, 512 - deleted));
+        // Wherever the way to the lowest key turns right, all on the left is gone, and two edges are one that weighs as much. It turns
+        // right for each 1 among the eight binary digits of `deleted`.
+        assert_eq!(pair.report()[2], deleted.count_ones().into(), "{deleted} keys deleted");
+        pair.look();
+    }
+    assert_eq!((pair.slot(2), overweight(&pair.words)), ([256, 0, 0, 9], (1, 8)));
+    assert_eq!(pair.report(), ONE_LEAF_OF_WEIGHT_9);
+
+    let mut at_once = pair.clone();
+    assert_eq!(settled_singly(&mut pair), EIGHT_WORKED_OFF);
+    assert_eq!(pair.report()[2..], [0; 5], "red-black, and no distance");
+    assert!(pair.twin.allowed().is_empty());
+    pair.look();
+    assert_eq!(at_once.run(Settle(u32::MAX)), (0, 8));
+    assert_eq!(at_once.words, pair.words);
+}
+
+/// D and the bound as before, beside the new sum.
+#[test]
+fn excess_weights() {
+    for (weight, excess) in [(1, 0), (2, 2), (3, 4), (9, 16), (255, 508)] {
+        let pair = two_leaves(weight);
+        assert_eq!(pair.report(), [3, weight.into(), excess, 0, 2 * excess, 0, 20 * excess]);
+        pair.look();
+    }
+    // Red edges take nothing off.
+    assert_eq!(p8(9).report(), [9, 9, 40, 1, 320, 4, 8982]);
+    assert_eq!(p8(255).report()[2], 1270);
+    assert_eq!(after_p2().report(), [7, 1, 0, 0, 0, 0, 0]);
+}
+
+/// The only overweighted edge leads to an inner node, on either side.
+#[test]
+fn excess_weight_above_an_inner_node() {
+    let heavy = |first| edge(5, inner(first, 0, edge(1, leaf(first + 1, 0)), edge(1, leaf(first + 2, 0))));
+    for pair in [below_the_root(heavy(2), complete(5, 5)), below_the_root(complete(2, 5), heavy(65))] {
+        assert_eq!(overweight(&pair.words), (1, 4));
+        assert_eq!(pair.report(), [67, 6, 4, 0, 256, 0, 51_712]);
+        pair.look();
+    }
+}
+
+/// "The root's is 1 and counts in nothing."
+#[test]
+fn a_root_has_no_excess_weight() {
+    let mut pair = Pair::prepared(1);
+    assert_eq!(pair.report(), [0; 7]);
+    pair.run(Insert(10));
+    assert_eq!(pair.report(), [1, 0, 0, 0, 0, 0, 0]);
+    pair.look();
+    // A delete below the root leaves it 1, whatever the sibling weighed.
+    let mut pair = two_leaves(255);
+    pair.run(Delete(1));
+    assert_eq!(pair.report(), [1, 0, 0, 0, 0, 0, 0]);
+}
+
+/// "0 for a refused pool"
+#[test]
+fn a_refused_pool_has_no_excess_weight() {
+    let heavy = two_leaves(9).words;
+    let mut broken = heavy.clone();
+    broken[3] = 1;
+    let left_over = [&heavy[..], &[0]].concat();
+    for (words, code, excess) in [(&heavy[..], 0, 16), (&broken, 2, 0), (&heavy[..15], 1, 0), (&left_over, 1, 0)] {
+        assert_eq!((same_on(words), raw::report(words, 3)), (code, excess), "{words:?}");
     }
 }

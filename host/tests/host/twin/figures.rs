@@ -5,7 +5,6 @@ use super::{Edge, Set};
 /// Sums over the edges below some edge.
 #[derive(Default)]
 struct Sums {
-    overweighted: u64,
     conflicts: u64,
     red_distance: u64,
     over_distance: u64,
@@ -24,17 +23,24 @@ impl Set {
         level
     }
 
-    /// N, L, overweighted edges, R, D, Q, and (3N+1)D + 2NR + Q.
+    /// N, L, the excess weight, R, D, Q, and (3N+1)D + 2NR + Q.
     pub fn figures(&self) -> [u64; 7] {
         let n = u64::from(self.nodes());
         let mut sums = Sums::default();
         if let Some(root) = &self.tree {
             add(root, n, &mut sums);
         }
-        let Sums { overweighted, conflicts: r, red_distance: q, over_distance: d } = sums;
+        let excess = self.tree.as_ref().map_or(0, excess_weight);
+        let Sums { conflicts: r, red_distance: q, over_distance: d } = sums;
         let bound = u128::from(3 * n + 1) * u128::from(d) + u128::from(2 * n * r + q);
-        [n, u64::from(self.level()), overweighted, r, d, q, u64::try_from(bound).expect("a bound of 64 bits")]
+        [n, u64::from(self.level()), excess, r, d, q, u64::try_from(bound).expect("a bound of 64 bits")]
     }
+}
+
+/// 02 (iii): "Source document 003 counts overweight conflicts as the sum of weight less one. The report's third number must be
+/// that sum". Over the edges below `to_v`, of which only the overweighted ones have any.
+fn excess_weight(to_v: &Edge) -> u64 {
+    to_v.to.edges().iter().map(|below| u64::from(below.weight.max(1) - 1) + excess_weight(below)).sum()
 }
 
 /// Adds what the edges below `to_u` give, and `to_u` as the upper edge of conflicts. Gives u's size.
@@ -44,7 +50,6 @@ fn add(to_u: &Edge, n: u64, sums: &mut Sums) -> u64 {
         let below_size = add(below, n, sums);
         size += below_size;
         if below.weight > 1 {
-            sums.overweighted += 1;
             // "D adds (weight - 1) times outside(u) over overweighted edges to u."
             sums.over_distance += u64::from(below.weight - 1) * (n - below_size);
         }
