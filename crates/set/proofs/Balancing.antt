@@ -20,7 +20,7 @@ use Rattle.tree.specs.Settle.{settle}
 use Rattle.tree.proofs.StepState.{step-sound-state}
 use Rattle.tree.proofs.Settling.{settle-sound-state}
 use Rattle.tree.proofs.SettleAnswers.{settle-state-falls, settle-state-within, Ended, ended-done, ended-spent, settle-ended}
-use Rattle.tree.proofs.Demand3.{boundOf, BalancedState, accepted-falls, SomeAccepted, some-accepted-is, some-accepted as some-accepted-state, none-accepted as none-accepted-state, settle-code-0, settle-enough as settle-enough-state}
+use Rattle.tree.proofs.Demand3.{boundOf, excessOf, BalancedState, accepted-falls, SomeAccepted, some-accepted-is, some-accepted as some-accepted-state, none-accepted as none-accepted-state, settle-code-0, settle-enough as settle-enough-state}
 use Rattle.format.specs.Shows.{PoolShows}
 use Rattle.report.specs.declared.Reported.{Reported}
 use Rattle.report.specs.Report.{reportOf}
@@ -29,7 +29,7 @@ use Rattle.steps.specs.Steps.{stepAnswer, stepWords, settleAnswer, settleWords}
 use Rattle.steps.proofs.StepShows.{step-entry}
 use Rattle.steps.proofs.SettleShows.{settle-entry}
 use Rattle.set.specs.Set.{Passing, Settles, done, spent}
-use Rattle.set.specs.Balance.{boundNumber, Balanced, Stepping, no-step, one-step}
+use Rattle.set.specs.Balance.{boundNumber, excessNumber, Balanced, Stepping, no-step, one-step}
 use Rattle.set.proofs.Passing.{step-passing}
 
 -- The report of words that show a sound State gives its numbers.
@@ -38,11 +38,14 @@ module _ {p : List ℕ} {S : State} (sound : Sound S) (shows : PoolShows p S) wh
   unfolding boundNumber
   bound-shown = ap (λ (r : Reported). r .figures .bound) (report-exact sound shows)
 
+  pub excess-shown : excessNumber p ≡ excessOf S
+  unfolding excessNumber
+  excess-shown = ap (λ (r : Reported). r .figures .«excess_weight») (report-exact sound shows)
+
   pub balanced-shown : Balanced p ↔ BalancedState S
   balanced-shown =
-      let e = report-exact sound shows in
-      let c : (reportOf p) .figures .conflicts ≡ (report (S .top)) .conflicts = ap (λ (r : Reported). r .figures .conflicts) e in
-      let o : (reportOf p) .figures .«excess_weight» ≡ (report (S .top)) .«excess_weight» = ap (λ (r : Reported). r .figures .«excess_weight») e in (
+      let o = excess-shown in
+      let c : (reportOf p) .figures .conflicts ≡ (report (S .top)) .conflicts = ap (λ (r : Reported). r .figures .conflicts) (report-exact sound shows) in (
         λ b. record { no-conflict = sym c ∙ b .no-conflict; no-overweight = sym o ∙ b .no-overweight },
         λ b. record { no-conflict = c ∙ b .no-conflict; no-overweight = o ∙ b .no-overweight },
       )

@@ -7,24 +7,16 @@ use mathlib.Core.List.{List}
 use native.Mathlib.Omega.{arith}
 use Prim.Native.Nat.{ℕ, _+_, _*_, _≤_}
 use Rattle.tree.specs.Codes.{codeOf, numberOf}
-use Rattle.tree.specs.State.{State, Sound}
 use Rattle.tree.proofs.StepState.{step-sound-state}
 use Rattle.tree.proofs.Settling.{settle-sound-state}
-use Rattle.tree.proofs.Working.{excessOf, step-works, settle-works as settle-state-works}
-use Rattle.format.specs.Shows.{PoolShows}
-use Rattle.report.specs.declared.Reported.{Reported}
-use Rattle.report.proofs.Exact.{report-exact}
+use Rattle.tree.proofs.Working.{step-works, settle-works as settle-state-works}
 use Rattle.steps.specs.Steps.{settleAnswer, settleWords}
 use Rattle.steps.proofs.StepShows.{step-entry}
 use Rattle.steps.proofs.SettleShows.{settle-entry}
 use Rattle.set.specs.Set.{Passing}
 use Rattle.set.specs.Balance.{excessNumber, Stepping, no-step, one-step}
 use Rattle.set.proofs.Passing.{step-passing}
-use Rattle.set.proofs.Balancing.{settle-balanced}
-
-excess-shown : {p : List ℕ} {S : State} → Sound S → PoolShows p S → excessNumber p ≡ excessOf S
-unfolding excessNumber
-excess-shown sound shows = ap (λ (r : Reported). r .figures .«excess_weight») (report-exact sound shows)
+use Rattle.set.proofs.Balancing.{excess-shown, settle-balanced}
 
 pub steps-work : {m : ℕ} {p q : List ℕ} → Passing p → Stepping m p q → (excessNumber q ≤ excessNumber p) × (excessNumber p ≤ excessNumber q + 2 * m)
 steps-work g no-step = omega arith
@@ -52,5 +44,4 @@ module _ {p : List ℕ} (g : Passing p) (budget : ℕ) where
       )
 
   pub settle-takes : codeOf (settleAnswer p budget) ≡ 0 → excessNumber p ≤ 2 * numberOf (settleAnswer p budget)
-  unfolding excessNumber
   settle-takes z = omega (arith, settle-works, settle-balanced g budget .0 z .no-overweight)

@@ -10,14 +10,14 @@ use Rattle.steps.specs.Steps.{stepAnswer, stepWords}
 unfoldable pub boundNumber : List ℕ → ℕ
 boundNumber p = (reportOf p) .figures .bound
 
--- The report's third number, the excess weight.
+-- Its third, the excess weight: 02 (iii)'s "sum of weight less one".
 unfoldable pub excessNumber : List ℕ → ℕ
 excessNumber p = (reportOf p) .figures .«excess_weight»
 
--- "Red-black means R = 0 and no overweighted edge", by the report's fourth number and its third, the excess weight.
+-- "Red-black means R = 0 and no overweighted edge", by the report's fourth number and its third.
 pub record Balanced (p : List ℕ) : Type 0 where
   pub no-conflict : (reportOf p) .figures .conflicts ≡ 0
-  pub no-overweight : (reportOf p) .figures .«excess_weight» ≡ 0
+  pub no-overweight : excessNumber p ≡ 0
 
 -- m accepted step calls in a row lead from the words p to the words q, of any slots and kinds.
 pub data Stepping : ℕ → List ℕ → List ℕ → Type 0 where

@@ -30,10 +30,14 @@ use Rattle.tree.proofs.Settled.{Held, settle-held, none-left-exactly, s
 abbrev pub boundOf : State → ℕ
 boundOf S = (report (S .top)) .bound
 
--- "Red-black means R = 0 and no overweighted edge", as the report gives them: an excess weight of 0
+-- the excess weight, as the report gives it
+abbrev pub excessOf : State → ℕ
+excessOf S = (report (S .top)) .«excess_weight»
+
+-- "Red-black means R = 0 and no overweighted edge", as the report gives them
 pub record BalancedState (S : State) : Type 0 where
   pub no-conflict : (report (S .top)) .conflicts ≡ 0
-  pub no-overweight : (report (S .top)) .«excess_weight» ≡ 0
+  pub no-overweight : excessOf S ≡ 0
 
 bound-is : (S : State) (t : Tree) → S .top ≡ full t → boundOf S ≡ bound t
 unfolding report

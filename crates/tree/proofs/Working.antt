@@ -16,6 +16,7 @@ use Rattle.tree.proofs.StepState.{StepCase, refused, taken, stepping}
 use Rattle.tree.proofs.Bound.{Steps, none-made, first}
 use Rattle.tree.proofs.Settling.{lastAfter, trees-follow, proper-made, sound-proper, settle-after, settle-number, settle-empty}
 use Rattle.tree.proofs.Settled.{follow-steps}
+use Rattle.tree.proofs.Demand3.{excessOf}
 
 -- with the edge above, of weight p before and q after, and without it
 abbrev Falls : ℕ → Tree → ℕ → Tree → Type 0
@@ -47,10 +48,7 @@ pub steps-work : {m : ℕ} {t u : Tree} → Steps m t u → (excessWeight u ≤ 
 steps-work none-made = omega arith
 steps-work (first h g) = omega (arith, excess-falls h, steps-work g)
 
--- of States, as the report gives it: m steps lead from S to T
-abbrev pub excessOf : State → ℕ
-excessOf S = (report (S .top)) .«excess_weight»
-
+-- of States: m steps lead from S to T
 abbrev pub Works : ℕ → State → State → Type 0
 Works m S T = (excessOf T ≤ excessOf S) × (excessOf S ≤ excessOf T + 2 * m)
 
