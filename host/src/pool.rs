@@ -43,7 +43,7 @@ pub struct Report {
     /// and Soisalon-Soininen's paper. One leaf of weight 9 gives 8, and eight units have to be worked off. It is 0 exactly where
     /// no edge is overweighted; no step raises it, and settling to the end takes at least half as many steps.
     ///
-    /// Proved: `excess-returned`, `excess-none-returned`, `steps-work`, `settle-takes`.
+    /// Proved: `excess-returned`, `excess-none-returned`, `excess-as-paper`, `steps-work`, `settle-takes`.
     pub excess_weight: u64,
     /// R, the red-red conflicts.
     pub conflicts: u64,

@@ -1,7 +1,7 @@
 -- What the exports' numbers say to a host: a batch's word is its code and its number and nothing is lost (`returned-parts`),
--- since a call's number is small (`number-small`); a report's number is 0 for a refused pool and for any other index
--- (`number-none`, `number-other`). Assumes nothing.
-use mathlib.Core.Path.{_≡_}
+-- since a call's number is small (`number-small`); a report's number is that of the tree that the words show (`number-passed`), and 0
+-- for a refused pool and for any other index (`number-none`, `number-other`). Assumes nothing.
+use mathlib.Core.Path.{_≡_, ap}
 use mathlib.Core.Logic.{_⊎_}
 use mathlib.Core.Bool.{false}
 use mathlib.Core.List.{List}
@@ -9,13 +9,15 @@ use Prim.Native.Nat.{ℕ, _/_, _%_, _≤_, _<_}
 use native.Mathlib.Omega.{arith}
 use lib.ListN.{length}
 use Rattle.format.specs.Words.{lengthGood}
-use Rattle.format.specs.Audit.{rulesHold}
-use Rattle.tree.specs.State.{figures}
+use Rattle.format.specs.Audit.{rulesHold, stateOf, auditCode}
+use Rattle.format.proofs.AuditCases.{audit-codes}
+use Rattle.tree.specs.State.{report, figures}
 use Rattle.encoding.specs.Batch.{Call, called, refused, batch}
 use Rattle.encoding.proofs.Endings.{Ending, length-refused, bad-command, few-answers, rules-refused, ran, ending}
 use Rattle.commands.proofs.Running.{batch-bad}
-use Rattle.report.specs.Report.{reportOf}
-use Rattle.report.proofs.Exact.{number-refused}
+use Rattle.report.specs.declared.Reported.{Reported}
+use Rattle.report.specs.Report.{reportOf, figureAt}
+use Rattle.report.proofs.Exact.{report-kept, number-refused}
 use Rattle.report.proofs.Reports.{figure-other}
 use Rattle.chromatic.specs.Exports.{numberAt, codeUnit, inOneWord, returned}
 
@@ -43,6 +45,13 @@ returned-parts k h = word-parts (k .code) (k .number) h
 pub number-none : (p : List ℕ) (i : ℕ) → (lengthGood p ≡ false) ⊎ (rulesHold p ≡ false) → numberAt p i ≡ 0
 unfolding numberAt
 number-none p i h = number-refused p i h
+
+-- and of one that passes the audit, those of the tree that its words show
+pub number-passed : (p : List ℕ) (i : ℕ) → auditCode p ≡ 0 → numberAt p i ≡ figureAt i (report ((stateOf p) .top))
+unfolding numberAt
+number-passed p i e =
+    let k = audit-codes p .passed-when .0 e in
+    ap (λ (r : Reported). figureAt i (r .figures)) (report-kept p (k .0) (k .1))
 
 pub number-other : (p : List ℕ) (i : ℕ) → (i ≡ 0) ⊎ (length (figures ((reportOf p) .figures)) < i) → numberAt p i ≡ 0
 unfolding numberAt

@@ -121,7 +121,7 @@ cases =
     ∷ row (says w3 (4 ∷ 1 ∷ 1 ∷ []) 1) (0 ∷ 0 ∷ 0 ∷ 1 ∷ [])
     ∷ row (leaves-words w3 (4 ∷ 1 ∷ 1 ∷ []) 1) w3b
     ∷ row (reported w3b) (9 ∷ 2 ∷ 0 ∷ 0 ∷ 0 ∷ 0 ∷ 0 ∷ [])
-    -- P4 "then delete 10: slot 3 is leaf 20 of weight 2; first free 4, then 2. D 6, bound 132."
+    -- P4 "then delete 10: slot 3 is leaf 20 of weight 2; first free 4, then 2. D 6, bound 132." 02 (iii), of the third number: "1 in case P4".
     ∷ row (says w3b (3 ∷ 10 ∷ []) 1) (0 ∷ 0 ∷ 0 ∷ 4 ∷ [])
     ∷ row (leaves-words w3b (3 ∷ 10 ∷ []) 1) w4
     ∷ row (slotWords (slotAt w4 3)) (20 ∷ 0 ∷ 0 ∷ 2 ∷ [])

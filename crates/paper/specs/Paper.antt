@@ -1,7 +1,8 @@
 -- Source 003, Nurmi and Soisalon-Soininen, "Chromatic binary search trees", in its own terms: Section 2 with Definitions 1 and 2,
--- Section 3, Section 4 as far as Definition 3, and o(T) of what follows it. No slot, no pool, no code and no limit is here; Ours.antt says how document 01's trees
--- and kinds stand to it. Six laws compare the two, in proofs/: Chromatic, RedBlack, Accepts, Effects, Updates, Overweight. The text that we have lacks the
--- figures: what Fig. 2 shows of a rotation is said in words, and of those words proofs/Figures.antt proves what the paper reads from it.
+-- Section 3, Section 4 as far as Definition 3, and o(T) of what follows it. No slot, no pool, no code and no limit is here; Ours.antt says
+-- how document 01's trees and kinds stand to it. Six laws compare the two, in proofs/: Chromatic, RedBlack, Accepts, Effects, Updates,
+-- Overweight. The text that we have lacks the figures: what Fig. 2 shows of a rotation is said in words, and of those words
+-- proofs/Figures.antt proves what the paper reads from it.
 use mathlib.Core.Path.{_≡_}
 use mathlib.Core.Logic.{_≢_, _⊎_}
 use mathlib.Core.List.{List, [], _∷_}

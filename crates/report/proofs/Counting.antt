@@ -131,9 +131,9 @@ module _ {p : List ℕ} {s n left : ℕ} (S : Standing p s n left) where
   overs-small f = rw (f S) (overs-few (S .weight) (omega (arith, S .fine .low)))
 
   -- and what a node adds to them
-  fits : {u : Counted} {own far : ℕ} → Small u → own ≤ mostSum → far ≤ n → Fits u own (own * far)
-  fits {own = own} {far} c a g =
-      let h = mul-le-mul {n₁ = own} {m₁ = far} {n₂ = mostSum} {m₂ = widest} a (omega (arith, S .few, slots-within)) in
+  fits : {u : Counted} {number times far : ℕ} → Small u → number ≤ mostSum → times ≤ mostSum → far ≤ n → Fits u number (times * far)
+  fits {times = times} {far} c a b g =
+      let h = mul-le-mul {n₁ = times} {m₁ = far} {n₂ = mostSum} {m₂ = widest} b (omega (arith, S .few, slots-within)) in
       record { number-fits = omega (arith, c .number-small); distance-fits = omega (arith, c .distance-small) }
 
   module _ {u : Counted} (f : Counts (λ w t. redsIn n 1 t) p s n left u) where
@@ -142,12 +142,15 @@ module _ {p : List ℕ} {s n left : ℕ} (S : Standing p s n left) where
     reds-inside = rw (f S) (S .inside)
 
     pub reds-fit : {own far : ℕ} → own ≤ 2 → far ≡ n - u .nodes → Fits u own (own * far)
-    reds-fit a g = fits (rw (f S) (reds-few 1)) (omega arith) (omega arith)
+    reds-fit a g = fits (rw (f S) (reds-few 1)) (omega arith) (omega arith) (omega arith)
 
   module _ {u : Counted} (f : Counts (λ w t. oversIn n 1 t) p s n left u) where
     pub overs-inside : u .nodes ≤ n
     unfolding oversIn
     overs-inside = rw (f S) (S .inside)
 
-    pub overs-fit : {c : Slot} {above far : ℕ} → c ≡ slotAt p s → above ≡ pred (c .weight) → far ≡ n - u .nodes → Fits u above (above * far)
-    overs-fit e m g = fits (rw (f S) (overs-few 1 (omega arith))) (omega (arith, standing-weight S e, S .fine .low)) (omega arith)
+    pub excess-low : {c : Slot} {above : ℕ} → c ≡ slotAt p s → above ≡ pred (c .weight) → above ≤ mostSum
+    excess-low e m = omega (arith, standing-weight S e, S .fine .low)
+
+    pub overs-fit : {number above far : ℕ} → number ≤ mostSum → above ≤ mostSum → far ≡ n - u .nodes → Fits u number (above * far)
+    overs-fit a b g = fits (rw (f S) (overs-few 1 (omega arith))) a b (omega arith)

@@ -23,7 +23,7 @@ use Rattle.report.specs.declared.Reported.{Reported}
 use Rattle.report.specs.Report.{reported, reportOf, figureAt}
 
 -- Code 0, and the numbers of the State that the words show.
-report-kept : (p : List ℕ) → lengthGood p ≡ true → rulesHold p ≡ true → reportOf p ≡ reported 0 (report ((stateOf p) .top))
+pub report-kept : (p : List ℕ) → lengthGood p ≡ true → rulesHold p ≡ true → reportOf p ≡ reported 0 (report ((stateOf p) .top))
 unfolding reportOf
 report-kept p e f = rw (audited-kept p e f)
 

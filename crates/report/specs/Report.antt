@@ -30,7 +30,7 @@ unfoldable pub figureAt : ℕ → Figures → ℕ
 figureAt zero f = 0
 figureAt (suc i) f = getD (figures f) i 0
 
--- RULES 6.5, read off the words: what the fourth word of a slot adds to the third number, "weight less one", and nothing if it is a free
--- slot's. (proofs/Summed.antt: the number is that of all slots, added up.)
+-- RULES 6.5, read off the words: what the fourth word of a slot adds to the third number, "weight less one" (pred 0 is 0), and nothing if it
+-- is a free slot's. (proofs/Summed.antt: the number is that of all slots, added up.)
 unfoldable pub excessWord : ℕ → ℕ
 excessWord w = elim (eqb w freeWeight) [ true ↦ 0 | false ↦ pred w ]

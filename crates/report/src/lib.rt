@@ -1,4 +1,4 @@
-// Document 01, Distances: the report's seven numbers, counted in two walks down the tree.
+// Documents 01, Distances, and 02 (iii): the report's seven numbers, counted in two walks down the tree.
 use format::Audited;
 use format::Header;
 use pool::allowance;
@@ -142,8 +142,8 @@ fn excess(weight: u32) -> u64
     }
 }
 
-// 02 (iii): "The report's third number must be that sum." 01: "D adds (weight - 1) times outside(u) over overweighted edges to u." Of the
-// edges in the subtree at slot s and the one to it. The root's weight is 1 and so counts in nothing.
+// 02 (iii): the third number, "the sum of weight less one". 01: "D adds (weight - 1) times outside(u) over overweighted edges to u." Of
+// the edges in the subtree at slot s and the one to it. The root's weight is 1 and so counts in nothing.
 fn over(pool: &[u32], s: u32, n: u32, left: u32) -> Counted
     requires { ⌜ Standing (now pool) s n left ⌝ }
     ensures { λ r. ⌜ Counts (oversIn n) (now (pool .entry)) s n left r ⌝ }

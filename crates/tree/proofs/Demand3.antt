@@ -43,7 +43,7 @@ bound-is : (S : State) (t : Tree) → S .top ≡ full t → boundOf S ≡ bound 
 unfolding report
 bound-is S t e = rw e
 
-balanced-is : (S : State) (t : Tree) → S .top ≡ full t → BalancedState S ↔ RedBlack t
+pub balanced-is : (S : State) (t : Tree) → S .top ≡ full t → BalancedState S ↔ RedBlack t
 unfolding report
 balanced-is S t e = (
   λ b. record { no-conflict = rw e at (b .no-conflict); no-overweight = excess-none t .0 (rw e at (b .no-overweight)) },

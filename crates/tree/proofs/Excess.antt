@@ -45,7 +45,7 @@ blackTree zero k = leaf 0 k
 blackTree (suc n) k = node 0 (k + 2 ^ n - 1) 1 (blackTree n k) 1 (blackTree n (k + 2 ^ n))
 
 -- 02 (iii): "One leaf of weight 9 shows as 1, and then eight units have to be worked off." It shows as 1 where no other edge is overweighted:
--- so its sibling has 256 leaves, and no smaller tree is chromatic.
+-- so its sibling has at least 256 leaves.
 unfoldable pub nine : Tree
 nine = node 0 0 9 (leaf 0 0) 1 (blackTree 8 1)
 
@@ -57,7 +57,7 @@ pub nine-reported : figures (report (full nine)) ≡ 513 ∷ 9 ∷ 8 ∷ 0 ∷ 4
 unfolding nine blackTree figures report size level one overweighted excessWeight conflicts redDistance overDistance bound outside ifRed forRed
 nine-reported = refl
 
--- it is what the audit rules ask
+-- its keys and weights are as the audit rules ask
 black-ordered : (n k lo hi : ℕ) → lo ≤ k → k + 2 ^ n ≤ hi → Ordered lo hi (blackTree n k)
 unfolding blackTree Ordered
 black-ordered zero k lo hi a b = (a, omega arith)

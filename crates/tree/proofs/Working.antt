@@ -1,7 +1,7 @@
 -- How the excess weight is worked off: no step raises it, and none lowers it by more than 2 (`excess-falls`, `step-works`); so a run of m
 -- steps lowers it by 2m at most (`steps-work`), and so do settle's (`settle-works`).
--- Why: kinds 6 to 8 lighten two edges, each of which was overweighted or not, and kind 6 adds one to the edge above; kind 1 lightens the edge
--- above, and kinds 2 to 5 keep every weight. Assumes nothing.
+-- Why: kinds 6 to 8 take one off two edges, of which one at least is overweighted; kind 6 adds one to the edge above, which is no more than it
+-- took; kind 1 takes one off the edge above, and kinds 2 to 5 keep the weights. Assumes nothing.
 use mathlib.Core.Path.{_≡_, refl}
 use native.Mathlib.Omega.{arith}
 use Prim.Native.Nat.{ℕ, pred, _+_, _*_, _≤_}

@@ -186,7 +186,7 @@ fn grown_pools() {
 }
 
 /// Every allowed step of every grown pool, one at a time until none is left, never more than the first report's bound; none raises the
-/// excess weight, or takes off more than one unit of each of two edges.
+/// excess weight, or lowers it by more than 2.
 #[test]
 fn steps_end_within_the_bound() {
     compared("steps to the end", 2000, 20, |rng, seen| {

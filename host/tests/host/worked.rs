@@ -477,8 +477,8 @@ fn settled_singly(pair: &mut Pair) -> Vec<u64> {
     }
 }
 
-/// 02 (iii): "One leaf of weight 9 shows as 1, and then eight units have to be worked off." No smaller tree has such a leaf and no other
-/// overweighted edge: L is 9, and so the root's other side has 256 leaves.
+/// 02 (iii): "One leaf of weight 9 shows as 1, and then eight units have to be worked off." With no other
+/// overweighted edge L is 9, and so the root's other side has at least 256 leaves.
 #[test]
 fn one_leaf_of_weight_9() {
     let on_the_left = below_the_root(edge(9, leaf(2, 0)), complete(3, 8));

@@ -2,15 +2,16 @@
 -- calls itself with `left` less 1, and `left` is its measure: it is not 0, since the tree that stands there is at most `left` nodes deep.
 -- Assumes nothing.
 use mathlib.Core.Logic.{⊎-elim}
-use Prim.Native.Nat.{ℕ, _<_}
+use Prim.Native.Nat.{ℕ, _≤_, _<_}
 use native.Mathlib.Omega.{arith}
 use borrow.Author.Needs.{needs}
 use borrow.Fn.Kinds.{In}
 use borrow.Fn.PlainCycle.{Measures, is, falls, and}
 use Rattle.slots.proofs.get_slot.Reads as get-slot-reads
+use Rattle.pool.specs.Walks.{mostSum}
 use Rattle.pool.proofs.Standing.{standing-live, standing-node}
 use Rattle.report.specs.Counted.{oversIn, Counts}
-use Rattle.report.proofs.Counting.{counts-leaf, counts-node, counts-over, overs-leaf, overs-node, overs-small, overs-inside, overs-fit}
+use Rattle.report.proofs.Counting.{counts-leaf, counts-node, counts-over, overs-leaf, overs-node, overs-small, overs-inside, excess-low, overs-fit}
 use Rattle.report.proofs.over.Reads as over
 use Rattle.report.proofs.over.Kinds as over-kinds
 use Rattle.report.proofs.+over.Lts-over as over-lts
@@ -42,6 +43,10 @@ under t c = ⊎-elim
     (λ w. rw (w .4) (counts-node (c .before .before .get-slot .ensures) (oversIn _) (oversIn _ 1) (overs-node _) (w .0 .left) (w .1 .ensures) (w .2 .ensures) (w .3 .ensures)))
     (c .if1 .came)
 
+-- The edge to it is no heavier than the audit allows.
+low : (t : ℕ) (c : over-lts.After-excess (over-claims t) (over-at t) over.Post) → c .excess .result ≤ mostSum
+low t c = excess-low (c .before .before .before .before .before .pre .1) (under t (c .before)) (c .before .before .before .get-slot .ensures) (c .excess .ensures)
+
 pub +over-spec : {M : Type 1} → statement M
 +over-spec = close μ-over λ t. over-lts.spec (over-claims t) (over-at t) over.Post
     (λ c κs. search needs)
@@ -53,6 +58,6 @@ pub +over-spec : {M : Type 1} → statement M
     (λ c κs. let K = standing-node (c .before .before .before .before .before .before .pre .1) (c .before .before .before .before .get-slot .ensures) (c .before .before .if1 .left) in (overs-small (K .on-left) (c .before .over .ensures), overs-small (K .on-right) (c .over2 .ensures)))
     (λ c κs. search needs)
     (λ c κs. overs-inside (c .before .before .before .before .before .pre .1) (under t (c .before)))
-    (λ c. omega (arith, overs-fit (c .before .before .before .before .before .before .pre .1) (under t (c .before .before)) (c .before .before .before .before .get-slot .ensures) (c .before .excess .ensures) (c .outside .ensures) .distance-fits))
-    (λ c κs. overs-fit (c .before .before .before .before .before .before .pre .1) (under t (c .before .before)) (c .before .before .before .before .get-slot .ensures) (c .before .excess .ensures) (c .outside .ensures))
+    (λ c. let own = low t (c .before) in omega (arith, overs-fit (c .before .before .before .before .before .before .pre .1) (under t (c .before .before)) own own (c .outside .ensures) .distance-fits))
+    (λ c κs. let own = low t (c .before) in overs-fit (c .before .before .before .before .before .before .pre .1) (under t (c .before .before)) (omega (arith, own)) own (c .outside .ensures))
     (λ c. counts-over (c .before .before .before .before .before .get-slot .ensures) (c .before .before .excess .ensures) (under t (c .before .before .before)) (c .before .outside .ensures) (c .adding .ensures))
