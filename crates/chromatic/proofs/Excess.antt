@@ -4,7 +4,7 @@
 -- the audit gives 0, the report 8 (`nine-returned`). Of a refused pool the number is 0 (Exports.antt: `number-none`). Assumes nothing.
 use mathlib.Core.Path.{_≡_, ap, _∙_}
 use mathlib.Core.Logic.{_↔_}
-use mathlib.Core.List.{List, [], _∷_}
+use mathlib.Core.List.{List}
 use lib.ListN.{getD}
 use Prim.Native.Nat.{ℕ, suc}
 use native.Mathlib.Omega.{arith}
@@ -12,7 +12,7 @@ use Rattle.tree.specs.Tree.{Tree}
 use Rattle.tree.specs.Distances.{overEdges}
 use Rattle.tree.specs.State.{State, full, nodes, GoodTop, Sound, report, figures}
 use Rattle.tree.proofs.Totals.{total}
-use Rattle.tree.proofs.Excess.{nine, nine-reported, nine-good}
+use Rattle.tree.proofs.Excess.{nine, nineFigures, nine-reported, nine-good}
 use Rattle.format.specs.Words.{slotsIn, wordsOf}
 use Rattle.format.specs.Audit.{stateOf, auditedCode, auditCode}
 use Rattle.format.proofs.Shown.{shows-words, shows-length-good}
@@ -42,7 +42,7 @@ module _ (p : List ℕ) (words : Words32 p) (passed : auditCode p ≡ 0) where
 abbrev pub nineState : State
 nineState = withRest 513 (renumberedTop (full nine))
 
-nine-figure : (i : ℕ) → figureAt (suc i) (report (full nine)) ≡ getD (513 ∷ 9 ∷ 8 ∷ 0 ∷ 4096 ∷ 0 ∷ 6307840 ∷ []) i 0
+nine-figure : (i : ℕ) → figureAt (suc i) (report (full nine)) ≡ getD nineFigures i 0
 unfolding figureAt
 nine-figure i = rw nine-reported
 

@@ -4,7 +4,7 @@
 -- Why: an edge adds its weight less one, which is 0 exactly where it is not overweighted. Assumes nothing.
 use mathlib.Core.Path.{_≡_, refl}
 use mathlib.Core.Logic.{_↔_}
-use mathlib.Core.List.{[], _∷_}
+use mathlib.Core.List.{List, [], _∷_}
 use Prim.Native.Nat.{ℕ, zero, suc, pred, _+_, _-_, _≤_, _^_}
 use lib.Pow.{pow-pos}
 use native.Mathlib.Omega.{arith}
@@ -53,7 +53,11 @@ pub nine-shows : overEdges nine ≡ 1
 unfolding nine blackTree overEdges one overweighted
 nine-shows = refl
 
-pub nine-reported : figures (report (full nine)) ≡ 513 ∷ 9 ∷ 8 ∷ 0 ∷ 4096 ∷ 0 ∷ 6307840 ∷ []
+-- N, L, excess weight, R, D, Q, bound
+abbrev pub nineFigures : List ℕ
+nineFigures = 513 ∷ 9 ∷ 8 ∷ 0 ∷ 4096 ∷ 0 ∷ 6307840 ∷ []
+
+pub nine-reported : figures (report (full nine)) ≡ nineFigures
 unfolding nine blackTree figures report size level one overweighted excessWeight conflicts redDistance overDistance bound outside ifRed forRed
 nine-reported = refl
 
