@@ -13,7 +13,7 @@ use Rattle.format.specs.Audit.{stateOf}
 use Rattle.encoding.specs.Batch.{commands, readBatch, runAll, Call, called, refused, batch}
 use Rattle.format.proofs.Shown.{shows-words}
 use Rattle.set.specs.Set.{Passing}
-use Rattle.set.proofs.Passing.{passing-state}
+use Rattle.set.proofs.Passing.{passing, passing-state}
 use Rattle.encoding.specs.Numbers.{Bytes}
 use Rattle.encoding.proofs.Endings.{Ending, length-refused, bad-command, few-answers, rules-refused, ran, ending}
 use Rattle.encoding.proofs.Performs.{AllSmall, run-sound}
@@ -61,7 +61,7 @@ module _ {p : List ℕ} (g : Passing p) (bytes out : List ℕ) (b : Bytes bytes)
             sound-after = sound;
             shows-after = shows;
             log-is = log-ran p bytes out f e;
-            passing = (runAll cs (stateOf p), sound, shows);
+            passing = passing sound shows;
           })
 
   -- a call that is not refused, by the commands that were read

@@ -21,6 +21,7 @@ use Rattle.encoding.specs.Batch.{commands, badAt, readBatch, perform, runAll, C
 use Rattle.format.proofs.Rules.{rules-show}
 use Rattle.format.proofs.AuditCases.{Words32}
 use Rattle.set.specs.Set.{Passing}
+use Rattle.set.proofs.Passing.{passing}
 use Rattle.set.proofs.Promises.{passing-audited}
 use Rattle.encoding.specs.Numbers.{Bytes}
 use Rattle.encoding.proofs.Endings.{Ending, length-refused, bad-command, few-answers, rules-refused, ran, ending, length-ends, bad-ends, few-ends, broken-ends, ran-ends}
@@ -152,7 +153,7 @@ module _ {p : List ℕ} (g : Passing p) (bytes out : List ℕ) (b : Bytes bytes)
 
 -- A call that is not refused had a pool that passes the audit ..
 pub ran-passing : (p bytes out : List ℕ) → Words32 p → (batch p bytes out) .code ≡ 0 → Passing p
-ran-passing p bytes out words given = let c = code-0 p bytes out .0 given in let g = rules-show (headerOf p) p (c .0) (c .2) words in (stateOf p, g .0, g .1)
+ran-passing p bytes out words given = let c = code-0 p bytes out .0 given in let g = rules-show (headerOf p) p (c .0) (c .2) words in passing (g .0) (g .1)
 
 -- .. and leaves one.
 pub passes-after : (p bytes out : List ℕ) → Words32 p → Bytes bytes → (batch p bytes out) .code ≡ 0 → auditCode ((batch p bytes out) .pool) ≡ 0

@@ -24,7 +24,7 @@ use Rattle.saved.proofs.Restarts.{save-says, load-back}
 use Rattle.set.specs.Set.{Passing, member}
 use Rattle.set.specs.Balance.{boundNumber}
 use Rattle.set.proofs.Members.{member-shown}
-use Rattle.set.proofs.Passing.{passing-state}
+use Rattle.set.proofs.Passing.{passing, passing-state}
 use Rattle.set.proofs.Promises.{search-codes}
 use Rattle.demands.specs.Calls.{Restart}
 
@@ -42,7 +42,7 @@ module _ {q r : List ℕ} (g : Passing q) (R : Restart q r) where
   restarted = let sound = renumbered-sound before in (sound, rw words-are (shows-words sound))
 
   pub restart-passing : Passing r
-  restart-passing = (renumberedState (stateOf q), restarted .0, restarted .1)
+  restart-passing = passing (restarted .0) (restarted .1)
 
   pub restart-keys : (x : ℕ) → member x r ≡ member x q
   restart-keys x =

@@ -6,27 +6,16 @@ use mathlib.Core.Option.{Option, none, some}
 use lib.Dec.{eqb, leb}
 use lib.ListN.{length, drop}
 use Prim.Native.Nat.{ℕ, min}
-use Rattle.tree.specs.declared.Refusal.{Refusal}
 use Rattle.tree.specs.declared.Refusal.the-variants.{PoolLength, RulesBroken, BadSaved, NoFit}
-use Rattle.tree.specs.declared.Answer.{Answer}
-use Rattle.tree.specs.declared.Answer.the-variants.{Done, Refused}
+use Rattle.tree.specs.declared.Answer.the-variants.{Done}
 use Rattle.tree.specs.State.{State, nodes}
 use Rattle.format.specs.Words.{lengthGood, slotsIn, wordsOf}
 use Rattle.format.specs.Audit.{rulesHold, stateOf}
 use Rattle.saved.specs.Saved.{savedBytes}
 use Rattle.saved.specs.Loaded.{loaded, badPlace}
 
--- a call's answer, and what it leaves of the bytes or words that it may write
-pub record Call : Type 0 where
-  pub answer : Answer
-  pub left : List ℕ
-
-abbrev pub gives : Answer → List ℕ → Call
-gives a lent = record { answer = a; left = lent }
-
--- RULES 16.4 and 16.5: "nothing is written on any of them" (the number beside a refusal is tree's `numberOf`)
-abbrev pub refuses : Refusal → List ℕ → Call
-refuses f lent = gives (Refused f) lent
+-- RULES 16.4 and 16.5: "nothing is written on any of them": `refuses` leaves what was lent as it was.
+pub use Rattle.format.specs.Performing.{Call, gives, refuses}
 
 -- RULES 16.4: "The writer answers 0 and the byte count [..]; output bytes past the count stay." 14 is "for too little output room".
 unfoldable pub saveInto : List ℕ → List ℕ → Call

@@ -44,20 +44,20 @@ use Rattle.updates.proofs.Kept.{insert-kept, delete-kept}
 
 -- A set: no key is in it twice; and k keys take 2k - 1 slots.
 pub member-once : {p : List ℕ} → Passing p → (x : ℕ) → member x p ≤ 1
-member-once g x = omega (arith, member-shown (g .1) (g .2) x, isIn-once x (g .0) (g .1))
+member-once g x = omega (arith, member-shown (g .sound) (g .shows) x, isIn-once x (g .state) (g .sound))
 
 pub room-exact : {p : List ℕ} → Passing p → pred (2 * held p) + room p ≡ slotsIn p
-room-exact g = room-held (g .1) (g .2) ∙ sym (shows-length-good (g .1) (g .2) .1)
+room-exact g = room-held (g .sound) (g .shows) ∙ sym (shows-length-good (g .sound) (g .shows) .1)
 
 -- The header's N is the slots that the keys take, and so is the report's first number. "Root is 0 exactly when N is 0", and then there is
 -- no key and every slot is free.
 module _ {p : List ℕ} (g : Passing p) where
   pub nodes-exact : (headerOf p) .nodes ≡ pred (2 * held p)
-  nodes-exact = omega (arith, shows-nodes (g .2), nodes-held (g .0 .top), held-shown (g .1) (g .2))
+  nodes-exact = omega (arith, shows-nodes (g .shows), nodes-held (g .state .top), held-shown (g .sound) (g .shows))
 
   pub report-nodes : (reportOf p) .figures .nodes ≡ (headerOf p) .nodes
   unfolding report nodes
-  report-nodes = ap (λ (r : Reported). r .figures .nodes) (report-exact (g .1) (g .2)) ∙ (go (g .0 .top) ∙ sym (shows-nodes (g .2)))
+  report-nodes = ap (λ (r : Reported). r .figures .nodes) (report-exact (g .sound) (g .shows)) ∙ (go (g .state .top) ∙ sym (shows-nodes (g .shows)))
     where
       go : (t : Top) → (report t) .nodes ≡ nodes t
       go empty = refl
@@ -65,7 +65,7 @@ module _ {p : List ℕ} (g : Passing p) where
 
   pub root-none : ((headerOf p) .root ≡ 0) ↔ ((headerOf p) .nodes ≡ 0)
   unfolding rootOf nodes HoldsTop
-  root-none = rw (shows-root (g .2), shows-nodes (g .2)) (go (g .0 .top) (g .2 .tree-held))
+  root-none = rw (shows-root (g .shows), shows-nodes (g .shows)) (go (g .state .top) (g .shows .tree-held))
     where
       go : (t : Top) → HoldsTop p t → (rootOf t ≡ 0) ↔ (nodes t ≡ 0)
       go empty h = (λ z. refl, λ z. refl)
@@ -75,7 +75,7 @@ module _ {p : List ℕ} (g : Passing p) where
   unfolding keysOf countIn
   empty-says z =
       let none : held p ≡ 0 = omega (arith, nodes-exact) in
-      record { no-member = λ x. member-shown (g .1) (g .2) x ∙ go x (g .0 .top) (sym (held-shown (g .1) (g .2)) ∙ none); none-held = none; all-free = omega (arith, room-exact g) }
+      record { no-member = λ x. member-shown (g .sound) (g .shows) x ∙ go x (g .state .top) (sym (held-shown (g .sound) (g .shows)) ∙ none); none-held = none; all-free = omega (arith, room-exact g) }
     where
       go : (x : ℕ) (t : Top) → length (keysOf t) ≡ 0 → countIn x (keysOf t) ≡ 0
       go x empty h = refl
@@ -88,12 +88,12 @@ prepare-says p h =
     record { no-member = λ x. member-shown (s .0) (s .1) x; none-held = held-shown (s .0) (s .1); all-free = room-shown (s .0) (s .1) ∙ upwards-length 1 (slotsIn p) }
 
 pub search-says : {p : List ℕ} → Passing p → (x : ℕ) → Searched x p (searchAnswer p x)
-search-says {p} g x = rw (search-entry x (g .1) (g .2)) (go (search-says-state x (g .0) (g .1)))
+search-says {p} g x = rw (search-entry x (g .sound) (g .shows)) (go (search-says-state x (g .state) (g .sound)))
   where
-    is : member x p ≡ isIn x (g .0)
-    is = member-shown (g .1) (g .2) x
+    is : member x p ≡ isIn x (g .state)
+    is = member-shown (g .sound) (g .shows) x
 
-    go : {o : Outcome} → SearchSays x (g .0) o → Searched x p (o .answer)
+    go : {o : Outcome} → SearchSays x (g .state) o → Searched x p (o .answer)
     go (found i e f) = here (is ∙ i)
     go (missing i) = nowhere (is ∙ i)
 
@@ -106,19 +106,19 @@ search-codes {p} g x = go (search-says g x)
 
 pub insert-says : {p : List ℕ} → Passing p → (x : ℕ) → x < keyEnd → Inserted x p (insertAnswer p x) (insertWords p x)
 insert-says {p} g x h =
-    let s = insert-entry x (g .1) (g .2) in
-    go (insert-says-state x (g .0) (g .1)) (insert-moves x (g .0) (g .1)) (insert-sound x (g .0) (g .1) h) (s .0) (s .1)
+    let s = insert-entry x (g .sound) (g .shows) in
+    go (insert-says-state x (g .state) (g .sound)) (insert-moves x (g .state) (g .sound)) (insert-sound x (g .state) (g .sound) h) (s .0) (s .1)
   where
-    is : member x p ≡ isIn x (g .0)
-    is = member-shown (g .1) (g .2) x
+    is : member x p ≡ isIn x (g .state)
+    is = member-shown (g .sound) (g .shows) x
 
-    go : {o : Outcome} → InsertSays x (g .0) o → Moves (g .0) o 0 1 → Sound (o .after) → insertAnswer p x ≡ o .answer
+    go : {o : Outcome} → InsertSays x (g .state) o → Moves (g .state) o 0 1 → Sound (o .after) → insertAnswer p x ≡ o .answer
         → PoolShows (insertWords p x) (o .after) → Inserted x p (insertAnswer p x) (insertWords p x)
     go (present i) m t e f = rw (insert-kept p x KeyPresent e, e) (key-present (is ∙ i))
-    go (no-room i r) m t e f = rw (insert-kept p x NoRoom e, e) (room-lacking (is ∙ i) (omega (arith, room-shown (g .1) (g .2), needed-shown (g .1) (g .2))))
+    go (no-room i r) m t e f = rw (insert-kept p x NoRoom e, e) (room-lacking (is ∙ i) (omega (arith, room-shown (g .sound) (g .shows), needed-shown (g .sound) (g .shows))))
     go (added i r k l) m t e f =
-        let enough : needed p ≤ room p = omega (arith, room-shown (g .1) (g .2), needed-shown (g .1) (g .2)) in
-        rw e (inserted (is ∙ i) enough (one-more (g .1) (g .2) t f (m .slots-stay) (omega (arith, m .by-one refl)) x k))
+        let enough : needed p ≤ room p = omega (arith, room-shown (g .sound) (g .shows), needed-shown (g .sound) (g .shows)) in
+        rw e (inserted (is ∙ i) enough (one-more (g .sound) (g .shows) t f (m .slots-stay) (omega (arith, m .by-one refl)) x k))
 
 pub insert-codes : {p : List ℕ} → Passing p → (x : ℕ) → x < keyEnd → InsertCodes x p (codeOf (insertAnswer p x))
 insert-codes {p} g x h = go (insert-says g x h)
@@ -130,18 +130,18 @@ insert-codes {p} g x h = go (insert-says g x h)
 
 pub delete-says : {p : List ℕ} → Passing p → (x : ℕ) → Deleted x p (deleteAnswer p x) (deleteWords p x)
 delete-says {p} g x =
-    let s = delete-entry x (g .1) (g .2) in
-    go (delete-says-state x (g .0) (g .1)) (delete-moves x (g .0) (g .1)) (delete-sound x (g .0) (g .1)) (s .0) (s .1)
+    let s = delete-entry x (g .sound) (g .shows) in
+    go (delete-says-state x (g .state) (g .sound)) (delete-moves x (g .state) (g .sound)) (delete-sound x (g .state) (g .sound)) (s .0) (s .1)
   where
-    is : member x p ≡ isIn x (g .0)
-    is = member-shown (g .1) (g .2) x
+    is : member x p ≡ isIn x (g .state)
+    is = member-shown (g .sound) (g .shows) x
 
-    go : {o : Outcome} → DeleteSays x (g .0) o → Moves (g .0) o 1 0 → Sound (o .after) → deleteAnswer p x ≡ o .answer
+    go : {o : Outcome} → DeleteSays x (g .state) o → Moves (g .state) o 1 0 → Sound (o .after) → deleteAnswer p x ≡ o .answer
         → PoolShows (deleteWords p x) (o .after) → Deleted x p (deleteAnswer p x) (deleteWords p x)
     go (absent i) m t e f = rw (delete-kept p x KeyAbsent e, e) (key-absent (is ∙ i))
     go (removed i n k) m t e f =
         rw (e ∙ ap Done (n ∙ sym (held-shown t f)))
-        (gone (is ∙ i) (one-more t f (g .1) (g .2) (sym (m .slots-stay)) (omega (arith, m .by-one refl)) x k))
+        (gone (is ∙ i) (one-more t f (g .sound) (g .shows) (sym (m .slots-stay)) (omega (arith, m .by-one refl)) x k))
 
 pub delete-codes : {p : List ℕ} → Passing p → (x : ℕ) → KeyCodes x p (codeOf (deleteAnswer p x))
 delete-codes {p} g x = go (delete-says g x)
@@ -153,11 +153,11 @@ delete-codes {p} g x = go (delete-says g x)
 -- Settle and step: the set and its room are as before.
 pub settle-same : {p : List ℕ} → Passing p → (budget : ℕ) → SameSet p (settleWords p budget)
 settle-same g b =
-    same-set (g .1) (g .2) (settle-sound-state (g .0) b (g .1)) (settle-entry (g .1) (g .2) b .1) (settle-keeps-keys (g .0) b (g .1)) (settle-free (g .0) b)
+    same-set (g .sound) (g .shows) (settle-sound-state (g .state) b (g .sound)) (settle-entry (g .sound) (g .shows) b .1) (settle-keeps-keys (g .state) b (g .sound)) (settle-free (g .state) b)
 
 pub step-same : {p : List ℕ} → Passing p → (s n : ℕ) → SameSet p (stepWords p s n)
 step-same g s n =
-    same-set (g .1) (g .2) (step-sound-state s n (g .0) (g .1)) (step-entry (g .1) (g .2) s n .1) (step-keeps-keys s n (g .0) (g .1)) (step-free s n (g .0))
+    same-set (g .sound) (g .shows) (step-sound-state s n (g .state) (g .sound)) (step-entry (g .sound) (g .shows) s n .1) (step-keeps-keys s n (g .state) (g .sound)) (step-free s n (g .state))
 
 -- The same by the answer, for code that matches on it.
 module _ {p : List ℕ} (g : Passing p) (x : ℕ) where

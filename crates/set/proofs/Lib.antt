@@ -5,3 +5,4 @@ pub mod Members
 pub mod Answers
 pub mod Leaves
 pub mod Promises
+pub mod Decides

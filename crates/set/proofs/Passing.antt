@@ -2,22 +2,22 @@
 -- 32-bit number (`passing-words`), and every operation leaves one: insert, delete, step, settle, and prepare (`…-passing`).
 -- Why: each operation on words that show a sound State shows the State that the definition gives (the crates' `…-shows`), and that
 -- one is sound (crate tree's `…-sound`). Assumes nothing.
-use mathlib.Core.Path.{_≡_}
+use mathlib.Core.Path.{_≡_, sym, _∙_}
 use mathlib.Core.Logic.{_↔_}
-use mathlib.Core.Bool.{true}
+use mathlib.Core.Bool.{true, false≢true}
 use mathlib.Core.List.{List}
 use Prim.Native.Nat.{ℕ, _<_}
-use Rattle.tree.specs.State.{keyEnd, Sound, prepared, insert, delete, step}
-use Rattle.tree.specs.Settle.{settle}
+use Rattle.tree.specs.State.{State, keyEnd, Sound}
 use Rattle.tree.proofs.Updated.{insert-sound, delete-sound}
 use Rattle.tree.proofs.StepState.{step-sound-state}
 use Rattle.tree.proofs.Settling.{settle-sound-state}
-use Rattle.format.specs.Words.{slotsIn, lengthGood}
+use Rattle.format.specs.declared.Audited.{Audited}
+use Rattle.format.specs.Words.{headerOf, slotsIn, lengthGood}
 use Rattle.format.specs.Shows.{PoolShows}
 use Rattle.format.specs.Audit.{stateOf, auditCode}
-use Rattle.format.proofs.Rules.{show-rules}
+use Rattle.format.proofs.Rules.{rules-show, show-rules}
 use Rattle.pool.specs.Results.{preparedWords}
-use Rattle.format.proofs.AuditCases.{Words32, audit-exact}
+use Rattle.format.proofs.AuditCases.{Words32, Case, wrong-length as length-case, rules-broken as broken-case, rules-kept as kept-case, audited-case, audit-exact}
 use Rattle.format.proofs.SmallWords.{words-small}
 use Rattle.pool.proofs.Prepares.{prepared-shows}
 use Rattle.updates.specs.Updating.{insertWords, deleteWords}
@@ -26,35 +26,55 @@ use Rattle.updates.proofs.DeleteShows.{delete-entry}
 use Rattle.steps.specs.Steps.{stepWords, settleWords}
 use Rattle.steps.proofs.StepShows.{step-entry}
 use Rattle.steps.proofs.SettleShows.{settle-entry}
-use Rattle.set.specs.Set.{Passing}
+use Rattle.set.specs.Operations.{auditedAnswer, auditAnswer}
+use Rattle.set.specs.Set.{Passing, Audits, wrong-length, rules-broken, audit-passed}
+
+-- Words that show a sound State pass.
+pub passing : {p : List ℕ} {S : State} → Sound S → PoolShows p S → Passing p
+passing {S = S} sound shows = record { state = S; sound = sound; shows = shows }
 
 -- Code 0 exactly when the pool passes; on words, of which each is a 32-bit number.
 pub audit-passes : (p : List ℕ) → Words32 p → (auditCode p ≡ 0) ↔ Passing p
-audit-passes p words = audit-exact p words
+audit-passes p words =
+    let e = audit-exact p words in
+    (λ z. let s = e .0 z in passing (s .1) (s .2), λ g. e .1 (g .state, g .sound, g .shows))
 
 pub passing-words : {p : List ℕ} → Passing p → Words32 p
-passing-words g = words-small (g .1) (g .2)
+passing-words g = words-small (g .sound) (g .shows)
+
+pub passing-length : {p : List ℕ} → Passing p → lengthGood p ≡ true
+passing-length g = show-rules (g .sound) (g .shows) .0
 
 pub passing-audited : {p : List ℕ} → Passing p → auditCode p ≡ 0
-passing-audited {p} g = audit-exact p (passing-words g) .1 g
+passing-audited {p} g = audit-passes p (passing-words g) .1 g
+
+-- The audit's answer, by cases.
+pub audit-says : (p : List ℕ) → Words32 p → Audits p (auditAnswer p)
+unfolding auditAnswer
+audit-says p words = go (audited-case p)
+  where
+    go : {a : Audited} → Case p a → Audits p (auditedAnswer a)
+    go (length-case l) = wrong-length l
+    go (broken-case l r) = rules-broken l (λ g. absurd (false≢true (sym r ∙ show-rules (g .sound) (g .shows) .1)))
+    go (kept-case l r) = let s = rules-show (headerOf p) p l r words in audit-passed l (passing (s .0) (s .1))
 
 -- A passing pool shows one State: the one that is read off its words.
 pub passing-state : {p : List ℕ} → Passing p → Sound (stateOf p) × PoolShows p (stateOf p)
-passing-state g = rw (show-rules (g .1) (g .2) .2) (g .1, g .2)
+passing-state g = rw (show-rules (g .sound) (g .shows) .2) (g .sound, g .shows)
 
 -- Every operation leaves a pool that passes.
 pub prepare-passing : (p : List ℕ) → lengthGood p ≡ true → Passing (preparedWords p)
-prepare-passing p h = let s = prepared-shows p h in (prepared (slotsIn p), s .0, s .1)
+prepare-passing p h = let s = prepared-shows p h in passing (s .0) (s .1)
 
 module _ {p : List ℕ} (g : Passing p) where
   pub insert-passing : (x : ℕ) → x < keyEnd → Passing (insertWords p x)
-  insert-passing x h = ((insert x (g .0)) .after, insert-sound x (g .0) (g .1) h, insert-entry x (g .1) (g .2) .1)
+  insert-passing x h = passing (insert-sound x (g .state) (g .sound) h) (insert-entry x (g .sound) (g .shows) .1)
 
   pub delete-passing : (x : ℕ) → Passing (deleteWords p x)
-  delete-passing x = ((delete x (g .0)) .after, delete-sound x (g .0) (g .1), delete-entry x (g .1) (g .2) .1)
+  delete-passing x = passing (delete-sound x (g .state) (g .sound)) (delete-entry x (g .sound) (g .shows) .1)
 
   pub step-passing : (s n : ℕ) → Passing (stepWords p s n)
-  step-passing s n = ((step s n (g .0)) .after, step-sound-state s n (g .0) (g .1), step-entry (g .1) (g .2) s n .1)
+  step-passing s n = passing (step-sound-state s n (g .state) (g .sound)) (step-entry (g .sound) (g .shows) s n .1)
 
   pub settle-passing : (budget : ℕ) → Passing (settleWords p budget)
-  settle-passing b = ((settle b (g .0)) .after, settle-sound-state (g .0) b (g .1), settle-entry (g .1) (g .2) b .1)
+  settle-passing b = passing (settle-sound-state (g .state) b (g .sound)) (settle-entry (g .sound) (g .shows) b .1)

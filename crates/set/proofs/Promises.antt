@@ -19,25 +19,33 @@ use Rattle.tree.specs.State.{keyEnd}
 use Rattle.format.specs.Words.{headerOf, slotsIn, lengthGood}
 use Rattle.format.specs.Audit.{auditCode}
 use Rattle.pool.specs.Results.{preparedWords}
-use Rattle.format.proofs.AuditCases.{Words32}
+pub use Rattle.format.proofs.AuditCases.{Words32}
 use Rattle.updates.specs.Updating.{searchAnswer, insertAnswer, insertWords, deleteAnswer, deleteWords}
 use Rattle.updates.proofs.Kept as kept
 use Rattle.report.specs.Report.{reportOf}
 use Rattle.steps.specs.Steps.{stepAnswer, stepWords, settleAnswer, settleWords}
 use Rattle.steps.proofs.StepShows as steps
-use Rattle.set.specs.Set.{Passing, member, held, room, needed, LeafSlot, OneMore, SameSet, Prepared, Searched, Inserted, Deleted, Settles, KeyCodes, InsertCodes}
+use Rattle.set.specs.Operations.{auditAnswer}
+use Rattle.set.specs.Set.{Passing, member, held, room, needed, Audits, LeafSlot, OneMore, SameSet, Prepared, Searched, Inserted, Deleted, Settles, KeyCodes, InsertCodes}
 use Rattle.set.specs.Balance.{boundNumber}
 use Rattle.set.proofs.Passing as passing
 use Rattle.set.proofs.Answers as answers
 use Rattle.set.proofs.Leaves as leaves
 use Rattle.set.proofs.Balancing as balancing
 
--- The audit gives code 0 exactly to the pools that pass; every word of one is a 32-bit number.
+-- The audit gives code 0 exactly to the pools that pass; the length of one is good, and every word of it a 32-bit number.
 pub audit-passes : (p : List ℕ) → Words32 p → (auditCode p ≡ 0) ↔ Passing p
 audit-passes = passing.audit-passes
 
+-- The audit as an answer, by cases: 1, 2, or the pool passes.
+pub audit-says : (p : List ℕ) → Words32 p → Audits p (auditAnswer p)
+audit-says = passing.audit-says
+
 pub passing-audited : {p : List ℕ} → Passing p → auditCode p ≡ 0
 passing-audited g = passing.passing-audited g
+
+pub passing-length : {p : List ℕ} → Passing p → lengthGood p ≡ true
+passing-length g = passing.passing-length g
 
 pub passing-words : {p : List ℕ} → Passing p → Words32 p
 passing-words g = passing.passing-words g

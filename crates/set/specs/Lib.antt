@@ -1,2 +1,3 @@
+pub mod Operations
 pub mod Set
 pub mod Balance

@@ -2,23 +2,26 @@
 -- these names and does not look behind them: `member`, `held` and `room` are read off the State that the words show.
 use mathlib.Core.Path.{_≡_}
 use mathlib.Core.Logic.{_↔_}
+use mathlib.Core.Bool.{true, false}
 use mathlib.Core.List.{List}
 use lib.Dec.{eqb}
 use lib.ListN.{length}
 use Prim.Native.Nat.{ℕ, _+_, _≤_, _<_}
 use Rattle.tree.specs.declared.Answer.{Answer}
 use Rattle.tree.specs.declared.Answer.the-variants.{Done, Refused, Spent}
-use Rattle.tree.specs.declared.Refusal.the-variants.{KeyPresent, KeyAbsent, NoRoom}
+use Rattle.tree.specs.declared.Refusal.the-variants.{PoolLength, RulesBroken, KeyPresent, KeyAbsent, NoRoom}
 use Rattle.tree.specs.Codes.{mostLevel, code}
 use Rattle.tree.specs.Tree.{one, countIn}
 use Rattle.tree.specs.State.{State, keysOf, isIn, Sound, slotsNeeded}
-use Rattle.format.specs.Words.{slot, headerOf, slotAt, slotsIn}
+use Rattle.format.specs.Words.{slot, headerOf, slotAt, slotsIn, lengthGood}
 use Rattle.format.specs.Shows.{PoolShows}
 use Rattle.format.specs.Audit.{treeFound, chainFound, slotsOf, stateOf}
 
 -- The pool passes the audit: its words show a sound State. (`audit-passes`: exactly when the audit's code is 0.)
-abbrev pub Passing : List ℕ → Type 0
-Passing p = (S : State) × Sound S × PoolShows p S
+pub record Passing (p : List ℕ) : Type 0 where
+  pub state : State
+  pub sound : Sound state
+  pub shows : PoolShows p state
 
 -- whether the key x is in the set: 1, or 0
 unfoldable pub member : ℕ → List ℕ → ℕ
@@ -60,6 +63,12 @@ pub record SameSet (p q : List ℕ) : Type 0 where
   pub room-left : room q ≡ room p
 
 -- What the operations answer, and the words q that they leave.
+-- The audit: 1 for a wrong length; 2 where a rule is broken; or the pool passes.
+pub data Audits (p : List ℕ) : Answer → Type 0 where
+  wrong-length : lengthGood p ≡ false → Audits p (Refused PoolLength)
+  rules-broken : lengthGood p ≡ true → (Passing p → ⊥) → Audits p (Refused RulesBroken)
+  audit-passed : lengthGood p ≡ true → Passing p → Audits p (Done 0)
+
 -- Prepare, as every empty pool: no key, and all C slots are free.
 pub record Prepared (p : List ℕ) (slots : ℕ) : Type 0 where
   pub no-member : (x : ℕ) → member x p ≡ 0
