@@ -28,7 +28,7 @@ root-empty shows e = shows-root shows ∙ ap rootOf e
 
 -- Another's is not; where the search from there ends, and what is there.
 module _ {h : Header} {p : List ℕ} {S : State} {t : Tree} (shows : Shows h p S) (e : S .top ≡ full t) where
-  root-full : h .root ≡ slotOf t
+  pub root-full : h .root ≡ slotOf t
   unfolding rootOf
   root-full = shows-root shows ∙ ap rootOf e
 
