@@ -8,22 +8,22 @@ use mathlib.Core.List.{List}
 use mathlib.Core.Option.{Option, none, some}
 use borrow.Author.Tests.{eq-eqb, ne-eqb, le-leb, lt-leb}
 use native.Mathlib.Omega.{arith}
-use Prim.Native.Nat.{ℕ, _≤_}
-use Rattle.tree.specs.Tree.{Tree, slotOf, size}
+use Prim.Native.Nat.{ℕ}
+use Rattle.tree.specs.Tree.{Tree, slotOf}
 use Rattle.tree.specs.Updates.{reachedSlot, reachedKey}
-use Rattle.tree.specs.State.{State, Top, empty, full, nodes, keysOf, keyEnd, Sound}
+use Rattle.tree.specs.State.{State, Top, empty, full, keysOf, keyEnd, Sound}
 use Rattle.tree.specs.Spans.{firstFrom, keyOr6, nextKey}
 use Rattle.tree.proofs.Tests.{either-way}
-use Rattle.tree.proofs.SoundStates.{sound-total, tree-good}
+use Rattle.tree.proofs.SoundStates.{tree-good}
 use Rattle.tree.proofs.Spans.{besideOf, keyBeside, keyAtOr, way-finds}
 use Rattle.format.specs.declared.Header.{Header}
-use Rattle.format.specs.Words.{slotAt, slotsIn}
-use Rattle.format.specs.Shows.{Holds, Shows, PoolShows}
+use Rattle.format.specs.Words.{slotsIn}
+use Rattle.format.specs.Shows.{Shows, PoolShows}
 use Rattle.format.proofs.Frame.{holds-root}
-use Rattle.format.proofs.Shown.{shows-tree, slots-in}
+use Rattle.format.proofs.Shown.{shows-tree}
 use Rattle.updates.specs.Updating.{wayTo}
 use Rattle.updates.proofs.Ways.{descend-reaches, reached-at}
-use Rattle.updates.proofs.SearchShows.{root-empty, root-full, root-some, leaf-shows}
+use Rattle.updates.proofs.SearchShows.{root-empty, root-full, root-some, size-within, leaf-shows}
 use Rattle.spans.specs.Spanning.{turned, turnsTo, nextBeside, nextAt, nextUnder, nextAnswer}
 use Rattle.spans.proofs.Ways.{slotBeside, turns-reach, HeldBeside, none-held, tree-held, beside-held}
 
@@ -35,19 +35,15 @@ beside-shows {p} x (tree-held {r = r} h d) =
     rw (ne-eqb (slotOf r) 0 (λ z. omega (arith, holds-root h .from-one)), nextBeside, descend-reaches (slotsIn p) x 0 h d, reached-at x h .content)
 
 module _ {h : Header} {p : List ℕ} {S : State} {t : Tree} (shows : Shows h p S) (e : S .top ≡ full t) (sound : Sound S) (x : ℕ) where
-  size-within : size t ≤ slotsIn p
-  unfolding nodes
-  size-within = rw (slots-in p (S .slots) (shows .length-is)) (omega (arith, sound-total sound, ap nodes e))
-
   turns-show : turnsTo p (h .root) x ≡ turned (reachedSlot x t) (slotBeside (besideOf x none t))
   unfolding turnsTo slotBeside
-  turns-show = rw (root-full shows e) (turns-reach (slotsIn p) x none (shows-tree shows e) size-within)
+  turns-show = rw (root-full shows e) (turns-reach (slotsIn p) x none (shows-tree shows e) (size-within shows e sound))
 
   next-full : nextAt p x (turnsTo p (h .root) x) ≡ keyOr6 (keyAtOr x (reachedKey x t) (keyBeside x (besideOf x none t)))
   unfolding nextAt keyAtOr keyOr6
   next-full = rw (turns-show, nextAt, leaf-shows shows e x) (either-way x (reachedKey x t)
       (λ i. rw (le-leb _ _ i, keyAtOr, turns-show, leaf-shows shows e x))
-      (λ i. rw (lt-leb _ _ i, keyAtOr, turns-show) (beside-shows x (beside-held x (shows-tree shows e) size-within none-held))))
+      (λ i. rw (lt-leb _ _ i, keyAtOr, turns-show) (beside-shows x (beside-held x (shows-tree shows e) (size-within shows e sound) none-held))))
 
 pub next-shows : {h : Header} {p : List ℕ} {S : State} (x : ℕ) → Sound S → Shows h p S → nextUnder p (h .root) x ≡ nextKey x (S .top)
 unfolding nextUnder nextKey keysOf firstFrom keyOr6
