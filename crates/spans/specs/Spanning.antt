@@ -23,7 +23,7 @@ besideAt x c beside = elim (leb x (c .key)) [ true ↦ c .right | false ↦ besi
 unfoldable pub turn : ℕ → Slot → ℕ → Turned
 turn x c beside = turned (toward x c) (besideAt x c beside)
 
--- From slot s on, at most n slots down. RULES 1.4: "A leaf has left and right 0."
+-- From slot s on, at most n slots down. "A leaf has left and right 0."
 unfoldable pub turns : ℕ → List ℕ → ℕ → ℕ → ℕ → Turned
 turns zero p x s beside = turned s beside
 turns (suc n) p x s beside = elim (eqb ((slotAt p s) .left) 0) [

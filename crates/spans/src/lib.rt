@@ -75,10 +75,10 @@ pub fn at_or_above(pool: &[u32], root: u32, key: u32) -> Answer
     }
     let t = turns(pool, root, key);
     let c = get_slot(pool, t.slot);
-    if key <= c.key {
-        return Answer::Done(c.key);
+    if c.key < key {
+        return next_beside(pool, t.beside, key);
     }
-    next_beside(pool, t.beside, key)
+    Answer::Done(c.key)
 }
 
 pub fn next_key(pool: &[u32], key: u32) -> Answer

@@ -3,7 +3,7 @@
 -- Why: the keys rise, so the first at or above x is the smallest. All keys on the right of a router that is at least x are above x, and
 -- all on the left of one that is below x are below x; so if the way ends at a key below x, the next one is the smallest of the side on
 -- the right of the last turn to the left, and every router there is above x. Assumes nothing.
-use mathlib.Core.Path.{_≡_, refl, sym, ap, _∙_}
+use mathlib.Core.Path.{_≡_, refl, _∙_}
 use mathlib.Core.Bool.{true, false}
 use mathlib.Core.List.{List, [], _∷_, _++_}
 use mathlib.Core.Option.{Option, none, some, orElse}
@@ -17,10 +17,10 @@ use Rattle.tree.specs.declared.Answer.the-variants.{Done, Refused}
 use Rattle.tree.specs.Tree.{Tree, leaf, node, countIn, keys, Ordered}
 use Rattle.tree.specs.Updates.{reach, reachedKey}
 use Rattle.tree.specs.State.{State, Top, empty, full, keysOf, isIn, keyEnd, Sound}
-use Rattle.tree.specs.Spans.{firstFrom, keyOr6, nextKey}
-use Rattle.tree.proofs.Tests.{either-way, same-or-not, one-same, one-other}
+use Rattle.tree.specs.Spans.{firstFrom, keyOrAbsent, nextKey}
+use Rattle.tree.proofs.Tests.{either-way, one-same, one-other}
 use Rattle.tree.proofs.Order.{All, Rising, ordered-bounds, occurs-above, keys-rising}
-use Rattle.tree.proofs.Search.{reach-left, reach-right}
+use Rattle.tree.proofs.Search.{reach-left}
 use Rattle.tree.proofs.SoundStates.{tree-good}
 use Rattle.tree.proofs.Updated.{isIn-tree, isIn-once}
 
@@ -48,11 +48,11 @@ first-says : (x : ℕ) (ks : List ℕ) → Rising ks → FirstSays x ks (firstFr
 unfolding Rising countIn firstFrom
 first-says x [] a = no-first (λ y h. refl)
 first-says x (k ∷ ks) a = either-way x k
-    (λ h. rw (first-here x k ks h) (first h (omega (arith, one-same k k refl)) (λ y i j. omega (arith, one-other y k (omega arith), not-below y k ks (a .0) (omega arith)))))
-    (λ h. rw (first-later x k ks h) (go h (first-says x ks (a .1))))
+    (λ h. rw (first-here x k ks (omega arith)) (first h (omega (arith, one-same k k refl)) (λ y i j. omega (arith, one-other y k (omega arith), not-below y k ks (a .0) (omega arith)))))
+    (λ h. rw (first-later x k ks (omega arith)) (go h (first-says x ks (a .1))))
   where
     go : {o : Option ℕ} → k < x → FirstSays x ks o → FirstSays x (k ∷ ks) o
-    go h (first {k = m} i j f) = first i (omega arith) (λ y l u. omega (arith, one-other y k (omega arith), f y l u))
+    go h (first i j f) = first i (omega arith) (λ y l u. omega (arith, one-other y k (omega arith), f y l u))
     go h (no-first f) = no-first (λ y l. omega (arith, one-other y k (omega arith), f y l))
 
 -- Of a sound State: the key k is in the set, at or above x, and none between is; or none at or above x is.
@@ -80,10 +80,10 @@ key-small k S g = go (S .top) refl
         (λ h. h)
 
 pub next-says : (x : ℕ) (S : State) → Sound S → NextSays x S (nextKey x (S .top))
-unfolding nextKey keyOr6
+unfolding nextKey keyOrAbsent
 next-says x S g = go (first-says x (keysOf (S .top)) (keys-rise S g))
   where
-    go : {o : Option ℕ} → FirstSays x (keysOf (S .top)) o → NextSays x S (keyOr6 o)
+    go : {o : Option ℕ} → FirstSays x (keysOf (S .top)) o → NextSays x S (keyOrAbsent o)
     go (first {k} i j f) = next i (key-small k S g j) (omega (arith, isIn-once k S g)) f
     go (no-first f) = none-above f
 
@@ -106,8 +106,8 @@ first-append : (x : ℕ) (ks ms : List ℕ) → firstFrom x (ks ++ ms) ≡ orEls
 unfolding firstFrom orElse
 first-append x [] ms = refl
 first-append x (k ∷ ks) ms = either-way x k
-    (λ h. rw (le-leb x k h, firstFrom))
-    (λ h. rw (lt-leb x k h, firstFrom) (first-append x ks ms))
+    (λ h. rw (first-here x k ks h, first-here x k (ks ++ ms) h))
+    (λ h. rw (first-later x k ks h, first-later x k (ks ++ ms) h) (first-append x ks ms))
 
 -- All keys of t are at or above x: the search for x goes left all the way, to the first.
 first-of : (x lo hi : ℕ) (t : Tree) → Ordered lo hi t → x ≤ lo → firstFrom x (keys t) ≡ some (reachedKey x t)
@@ -134,13 +134,13 @@ way-first : (x lo hi : ℕ) (b : Option Tree) (t : Tree) → Ordered lo hi t
     → keyAtOr x (reachedKey x t) (keyBeside x (besideOf x b t)) ≡ orElse (firstFrom x (keys t)) (keyBeside x b)
 unfolding Ordered keys reachedKey reach besideOf keyBeside keyAtOr firstFrom orElse
 way-first x lo hi b (leaf s k) o = either-way x k
-    (λ h. rw (le-leb x k h, keyAtOr, firstFrom))
-    (λ h. rw (lt-leb x k h, keyAtOr, firstFrom))
+    (λ h. rw (le-leb x k h, keyAtOr, first-here x k [] h))
+    (λ h. rw (lt-leb x k h, keyAtOr, first-later x k [] h))
 way-first x lo hi b (node s k wl l wr r) o = either-way x k
-    (λ h. rw (le-leb x k h, besideOf, reachedKey, reach, first-append x (keys l) (keys r), first-of x (suc k) hi r (o .1) (omega arith))
-    (way-first x lo (suc k) (some r) l (o .0) ∙ or-some (firstFrom x (keys l)) (reachedKey x r) (keyBeside x b)))
-    (λ h. rw (lt-leb x k h, besideOf, reachedKey, reach, first-append x (keys l) (keys r), first-none x lo (suc k) l (o .0) h)
-    (way-first x (suc k) hi b r (o .1)))
+    (λ h.
+        let e = way-first x lo (suc k) (some r) l (o .0) ∙ or-some (firstFrom x (keys l)) (reachedKey x r) (keyBeside x b) in
+        rw (le-leb x k h, besideOf, reachedKey, reach, first-append x (keys l) (keys r), first-of x (suc k) hi r (o .1) (omega arith)) e)
+    (λ h. rw (lt-leb x k h, besideOf, reachedKey, reach, first-append x (keys l) (keys r), first-none x lo (suc k) l (o .0) h) (way-first x (suc k) hi b r (o .1)))
 
 or-none : (o : Option ℕ) → orElse o none ≡ o
 unfolding orElse

@@ -1,4 +1,4 @@
--- Keys of a span of numbers (serves RULES 17), on a State's keys. 02 (vii): "the smallest key at or above a given one".
+-- Keys by their order (serves RULES 17), on a State. 02 (vii): "the smallest key at or above a given one".
 use mathlib.Core.Bool.{true, false}
 use mathlib.Core.List.{List, [], _∷_}
 use mathlib.Core.Option.{Option, none, some}
@@ -15,9 +15,9 @@ firstFrom x [] = none
 firstFrom x (k ∷ ks) = elim (leb x k) [ true ↦ some k | false ↦ firstFrom x ks ]
 
 -- that key, or 6 "key absent"
-unfoldable pub keyOr6 : Option ℕ → Answer
-keyOr6 none = Refused KeyAbsent
-keyOr6 (some k) = Done k
+unfoldable pub keyOrAbsent : Option ℕ → Answer
+keyOrAbsent none = Refused KeyAbsent
+keyOrAbsent (some k) = Done k
 
 unfoldable pub nextKey : ℕ → Top → Answer
-nextKey x t = keyOr6 (firstFrom x (keysOf t))
+nextKey x t = keyOrAbsent (firstFrom x (keysOf t))
