@@ -138,8 +138,8 @@ way-first x lo hi b (leaf s k) o = either-way x k
     (λ h. rw (lt-leb x k h, keyAtOr, first-later x k [] h))
 way-first x lo hi b (node s k wl l wr r) o = either-way x k
     (λ h.
-        let e = way-first x lo (suc k) (some r) l (o .0) ∙ or-some (firstFrom x (keys l)) (reachedKey x r) (keyBeside x b) in
-        rw (le-leb x k h, besideOf, reachedKey, reach, first-append x (keys l) (keys r), first-of x (suc k) hi r (o .1) (omega arith)) e)
+    let e = way-first x lo (suc k) (some r) l (o .0) ∙ or-some (firstFrom x (keys l)) (reachedKey x r) (keyBeside x b) in
+    rw (le-leb x k h, besideOf, reachedKey, reach, first-append x (keys l) (keys r), first-of x (suc k) hi r (o .1) (omega arith)) e)
     (λ h. rw (lt-leb x k h, besideOf, reachedKey, reach, first-append x (keys l) (keys r), first-none x lo (suc k) l (o .0) h) (way-first x (suc k) hi b r (o .1)))
 
 or-none : (o : Option ℕ) → orElse o none ≡ o
