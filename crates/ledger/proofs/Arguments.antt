@@ -54,10 +54,10 @@ pub arguments-good-is : (n r l : ℕ) → (argumentsGood n r l ≡ true) ↔ Arg
 unfolding argumentsGood
 arguments-good-is n r l = (
   λ h.
-    let a = both _ _ h in
-    let b = both _ _ (a .0) in
-    let c = both _ _ (b .0) in
-    record { notice-in = notice-good-is n .0 (c .0); resident-in = leb-true r mostResident (c .1); some = leb-true 1 l (b .1); few = leb-true l mostAttempts (a .1) },
+      let a = both _ _ h in
+      let b = both _ _ (a .0) in
+      let c = both _ _ (b .0) in
+      record { notice-in = notice-good-is n .0 (c .0); resident-in = leb-true r mostResident (c .1); some = leb-true 1 l (b .1); few = leb-true l mostAttempts (a .1) },
   λ i. rw (notice-good-is n .1 (i .notice-in), argumentsGood, le-leb r mostResident (i .resident-in), le-leb 1 l (i .some), le-leb l mostAttempts (i .few)),
 )
 

@@ -74,3 +74,25 @@ pub record Sent (p : List ℕ) (n r l a : ℕ) (q : List ℕ) : Type 0 where
   pub had-room : needed p ≤ room p
   pub passes : Passing q
   pub one-more : OneMore (markKey n r a) p q
+
+-- RULES 17.5: what clearing notice n leaves, and how many marks went.
+pub record Cleaned (p : List ℕ) (n count : ℕ) (q : List ℕ) : Type 0 where
+  pub notice-in : NoticeIn n
+  pub passed : Passing p
+  pub passes : Passing q
+  pub none-left : (x : ℕ) → IsMark n x → member x q ≡ 0
+  pub others-stay : (x : ℕ) → (IsMark n x → ⊥) → member x q ≡ member x p
+  pub keys-gone : held q + count ≡ held p
+
+-- how clearing ends, by its code
+pub data ClearEnds (p : List ℕ) (n : ℕ) : Call → Type 0 where
+  clears-15 : (NoticeIn n → ⊥) → ClearEnds p n (refuses OutOfRange p)
+  clears-1 : NoticeIn n → lengthGood p ≡ false → ClearEnds p n (refuses PoolLength p)
+  clears-2 : NoticeIn n → lengthGood p ≡ true → (Passing p → ⊥) → ClearEnds p n (refuses RulesBroken p)
+  clears-0 : {count : ℕ} {q : List ℕ} → lengthGood p ≡ true → Cleaned p n count q → ClearEnds p n (gives (Done count) q)
+
+pub record ClearCodes (p : List ℕ) (n code : ℕ) : Type 0 where
+  pub done-when : (code ≡ 0) ↔ (NoticeIn n × Passing p)
+  pub outside-when : (code ≡ 15) ↔ (NoticeIn n → ⊥)
+  pub length-when : (code ≡ 1) ↔ (NoticeIn n × (lengthGood p ≡ false))
+  pub broken-when : (code ≡ 2) ↔ (NoticeIn n × (lengthGood p ≡ true) × (Passing p → ⊥))

@@ -13,10 +13,13 @@ ghost use Rattle.ledger.specs.Ledger.{mostAttempts, noticeGood, argument
 
 // 02 (iv): "A notice number from 1 to 65,535 and a resident number from 0 to 8,191 are given, with a limit from 1 to 7."
 pub const MOST_NOTICE: u32 = 65535;
+
 pub const MOST_RESIDENT: u32 = 8191;
+
 pub const MOST_ATTEMPTS: u32 = 7;
 // 02 (iv): "The key is notice times 65,536 plus resident times 8 plus the attempt": so many keys has a notice, and a resident of it.
 const NOTICE_KEYS: u32 = 65536;
+
 const RESIDENT_KEYS: u32 = 8;
 
 fn notice_good(notice: u32) -> bool

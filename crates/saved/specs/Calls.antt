@@ -13,7 +13,6 @@ use Rattle.format.specs.Words.{lengthGood, slotsIn, wordsOf}
 use Rattle.format.specs.Audit.{rulesHold, stateOf}
 use Rattle.saved.specs.Saved.{savedBytes}
 use Rattle.saved.specs.Loaded.{loaded, badPlace}
-
 -- RULES 16.4 and 16.5: "nothing is written on any of them": `refuses` leaves what was lent as it was.
 pub use Rattle.format.specs.Performing.{Call, gives, refuses}
 

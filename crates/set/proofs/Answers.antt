@@ -1,4 +1,4 @@
--- Search, insert, delete, prepare, step and settle on words that pass the audit: what they answer and what set the words then show.
+-- Search, the next key, insert, delete, prepare, step and settle on words that pass the audit: what they answer and what set the words then show.
 -- Behind the page Promises.antt; not for crates above.
 -- Why: on words that show a sound State each operation is the State's (the crates' `…-shows`), of which crate tree says what it answers
 -- and which keys it moves, and Members.antt what the words then show. Assumes nothing.
@@ -19,6 +19,7 @@ use Rattle.tree.specs.State.{Top, empty, full, nodes, keyEnd, Sound, Outcome, p
 use Rattle.tree.proofs.Order.{leaves-keys, nodes-of}
 use Rattle.tree.proofs.Updated.{isIn-once, SearchSays, found, missing, InsertSays, present, no-room, added, DeleteSays, absent, removed}
 use Rattle.tree.proofs.Updated.{search-says as search-says-state, insert-says as insert-says-state, delete-says as delete-says-state, insert-sound, delete-sound}
+use Rattle.tree.proofs.Spans.{NextSays as NextSaysState, next, none-above, next-says as next-says-state}
 use Rattle.tree.proofs.StepState.{step-keeps-keys, step-sound-state}
 use Rattle.tree.proofs.Settling.{settle-sound-state}
 use Rattle.format.specs.Words.{headerOf, slotsIn, lengthGood, rootOf}
@@ -34,10 +35,12 @@ use Rattle.updates.specs.Updating.{searchAnswer, insertAnswer, insertWords, del
 use Rattle.updates.proofs.SearchShows.{search-entry}
 use Rattle.updates.proofs.InsertShows.{insert-entry}
 use Rattle.updates.proofs.DeleteShows.{delete-entry}
+use Rattle.spans.specs.Spanning.{nextAnswer}
+use Rattle.spans.proofs.NextShows.{next-entry}
 use Rattle.steps.specs.Steps.{stepWords, settleWords}
 use Rattle.steps.proofs.StepShows.{step-entry}
 use Rattle.steps.proofs.SettleShows.{settle-entry}
-use Rattle.set.specs.Set.{Passing, member, held, room, needed, OneMore, SameSet, Prepared, Searched, here, nowhere, Inserted, key-present, room-lacking, inserted, Deleted, key-absent, gone, KeyCodes, InsertCodes}
+use Rattle.set.specs.Set.{Passing, member, held, room, needed, OneMore, SameSet, Prepared, Searched, here, nowhere, NextSays, next-is, none-left, Inserted, key-present, room-lacking, inserted, Deleted, key-absent, gone, KeyCodes, InsertCodes}
 use Rattle.tree.proofs.Moves.{upwards-length, nodes-held, Moves, insert-moves, delete-moves, step-free, settle-keeps-keys, settle-free}
 use Rattle.set.proofs.Members.{member-shown, held-shown, room-shown, needed-shown, room-held, one-more, same-set}
 use Rattle.updates.proofs.Kept.{insert-kept, delete-kept}
@@ -103,6 +106,16 @@ search-codes {p} g x = go (search-says g x)
     go : {a : Answer} → Searched x p a → KeyCodes x p (codeOf a)
     go (here i) = omega arith
     go (nowhere i) = omega arith
+
+pub next-says : {p : List ℕ} → Passing p → (x : ℕ) → NextSays x p (nextAnswer p x)
+next-says {p} g x = rw (next-entry x (g .sound) (g .shows)) (go (next-says-state x (g .state) (g .sound)))
+  where
+    is : (y : ℕ) → member y p ≡ isIn y (g .state)
+    is y = member-shown (g .sound) (g .shows) y
+
+    go : {a : Answer} → NextSaysState x (g .state) a → NextSays x p a
+    go (next {k} h s i f) = next-is h s (is k ∙ i) (λ y l u. is y ∙ f y l u)
+    go (none-above f) = none-left (λ y l. is y ∙ f y l)
 
 pub insert-says : {p : List ℕ} → Passing p → (x : ℕ) → x < keyEnd → Inserted x p (insertAnswer p x) (insertWords p x)
 insert-says {p} g x h =

@@ -22,11 +22,12 @@ use Rattle.pool.specs.Results.{preparedWords}
 pub use Rattle.format.proofs.AuditCases.{Words32}
 use Rattle.updates.specs.Updating.{searchAnswer, insertAnswer, insertWords, deleteAnswer, deleteWords}
 use Rattle.updates.proofs.Kept as kept
+use Rattle.spans.specs.Spanning.{nextAnswer}
 use Rattle.report.specs.Report.{reportOf}
 use Rattle.steps.specs.Steps.{stepAnswer, stepWords, settleAnswer, settleWords}
 use Rattle.steps.proofs.StepShows as steps
 use Rattle.set.specs.Operations.{auditAnswer}
-use Rattle.set.specs.Set.{Passing, member, held, room, needed, Audits, LeafSlot, OneMore, SameSet, Prepared, Searched, Inserted, Deleted, Settles, KeyCodes, InsertCodes}
+use Rattle.set.specs.Set.{Passing, member, held, room, needed, Audits, LeafSlot, OneMore, SameSet, Prepared, Searched, NextSays, Inserted, Deleted, Settles, KeyCodes, InsertCodes}
 use Rattle.set.specs.Balance.{boundNumber}
 use Rattle.set.proofs.Passing as passing
 use Rattle.set.proofs.Answers as answers
@@ -96,6 +97,10 @@ module _ {p : List ℕ} (g : Passing p) (x : ℕ) where
   -- The slot that is answered: exactly that of a leaf with the key.
   pub search-slot : (s : ℕ) → (searchAnswer p x ≡ Done s) ↔ LeafSlot x s p
   search-slot = leaves.search-slot g x
+
+  -- The next key: the smallest of the set that is at or above x; "key absent" exactly when none is.
+  pub next-says : NextSays x p (nextAnswer p x)
+  next-says = answers.next-says g x
 
   -- Insert: "key present" exactly when the key is in the set; "fewer free slots than needed" exactly when it is not and there are; else
   -- done, and the set has that key more, and no other.

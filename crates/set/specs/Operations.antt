@@ -8,11 +8,10 @@ use Rattle.tree.specs.declared.Refusal.the-variants.{PoolLength, RulesBroken}
 use Rattle.format.specs.declared.Audited.{Audited}
 use Rattle.format.specs.declared.Audited.the-variants.{Length, Broken, Passed}
 use Rattle.format.specs.Audit.{audited}
-
--- Search, insert and delete (RULES 3), on a pool; keys are below `keyEnd`.
+-- Search, insert and delete (RULES 3), and the smallest key at or above a given one, on a pool; keys are below `keyEnd`.
 pub use Rattle.tree.specs.State.{keyEnd}
 pub use Rattle.updates.specs.Updating.{searchAnswer, insertAnswer, insertWords, deleteAnswer, deleteWords}
-
+pub use Rattle.spans.specs.Spanning.{nextAnswer}
 -- what a call answers and leaves, codes and numbers (RULES 9), the pool's length (RULES 1.1) and C
 pub use Rattle.tree.specs.Codes.{code, codeOf, numberOf}
 pub use Rattle.tree.specs.Tree.{one}

@@ -12,7 +12,7 @@ use Rattle.tree.specs.declared.Answer.the-variants.{Done, Refused, Spent}
 use Rattle.tree.specs.declared.Refusal.the-variants.{PoolLength, RulesBroken, KeyPresent, KeyAbsent, NoRoom}
 use Rattle.tree.specs.Codes.{mostLevel, code}
 use Rattle.tree.specs.Tree.{one, countIn}
-use Rattle.tree.specs.State.{State, keysOf, isIn, Sound, slotsNeeded}
+use Rattle.tree.specs.State.{State, keysOf, isIn, keyEnd, Sound, slotsNeeded}
 use Rattle.format.specs.Words.{slot, headerOf, slotAt, slotsIn, lengthGood}
 use Rattle.format.specs.Shows.{PoolShows}
 use Rattle.format.specs.Audit.{treeFound, chainFound, slotsOf, stateOf}
@@ -79,6 +79,11 @@ pub record Prepared (p : List ℕ) (slots : ℕ) : Type 0 where
 pub data Searched (x : ℕ) (p : List ℕ) : Answer → Type 0 where
   here : {s : ℕ} → member x p ≡ 1 → Searched x p (Done s)
   nowhere : member x p ≡ 0 → Searched x p (Refused KeyAbsent)
+
+-- 02 (vii), "the smallest key at or above a given one": a key of the set, and none of the set between; or none is at or above it.
+pub data NextSays (x : ℕ) (p : List ℕ) : Answer → Type 0 where
+  next-is : {k : ℕ} → x ≤ k → k < keyEnd → member k p ≡ 1 → ((y : ℕ) → x ≤ y → y < k → member y p ≡ 0) → NextSays x p (Done k)
+  none-left : ((y : ℕ) → x ≤ y → member y p ≡ 0) → NextSays x p (Refused KeyAbsent)
 
 -- Insert: "key present"; "fewer free slots than needed"; or done, and then the set has that key more. A refusal leaves the words.
 pub data Inserted (x : ℕ) (p : List ℕ) : Answer → List ℕ → Type 0 where

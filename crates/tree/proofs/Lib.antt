@@ -18,6 +18,7 @@ pub mod Search
 pub mod Insert
 pub mod Delete
 pub mod Updated
+pub mod Spans
 pub mod Below
 pub mod Excess
 pub mod Limits

@@ -5,3 +5,4 @@ pub mod Kinds
 pub mod Updates
 pub mod State
 pub mod Settle
+pub mod Spans

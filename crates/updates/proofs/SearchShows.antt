@@ -7,13 +7,13 @@ use mathlib.Core.Logic.{_≢_}
 use mathlib.Core.List.{List}
 use borrow.Author.Tests.{eq-eqb, ne-eqb}
 use native.Mathlib.Omega.{arith}
-use Prim.Native.Nat.{ℕ}
-use Rattle.tree.specs.Tree.{Tree, slotOf}
+use Prim.Native.Nat.{ℕ, _≤_}
+use Rattle.tree.specs.Tree.{Tree, slotOf, size}
 use Rattle.tree.specs.Updates.{reachedSlot, reachedKey}
 use Rattle.tree.proofs.Tests.{same-or-not}
 use Rattle.tree.specs.State.{State, Top, empty, full, nodes, Sound, search}
 use Rattle.format.specs.declared.Header.{Header}
-use Rattle.format.specs.Words.{slot, slotAt, rootOf}
+use Rattle.format.specs.Words.{slot, slotAt, slotsIn, rootOf}
 use Rattle.format.specs.Shows.{Shows, PoolShows}
 use Rattle.format.proofs.Frame.{holds-root}
 use Rattle.format.proofs.Shown.{shows-root, shows-tree, slots-in}
@@ -28,18 +28,21 @@ root-empty shows e = shows-root shows ∙ ap rootOf e
 
 -- Another's is not; where the search from there ends, and what is there.
 module _ {h : Header} {p : List ℕ} {S : State} {t : Tree} (shows : Shows h p S) (e : S .top ≡ full t) where
-  root-full : h .root ≡ slotOf t
+  pub root-full : h .root ≡ slotOf t
   unfolding rootOf
   root-full = shows-root shows ∙ ap rootOf e
 
   pub root-some : h .root ≢ 0
   root-some z = omega (arith, root-full, holds-root (shows-tree shows e) .from-one)
 
+  -- as many slots as the longest way can have
+  pub size-within : Sound S → size t ≤ slotsIn p
+  unfolding nodes
+  size-within sound = rw (slots-in p (S .slots) (shows .length-is)) (omega (arith, sound-total sound, ap nodes e))
+
   pub way-shows : (x : ℕ) → Sound S → wayTo p (h .root) x ≡ way (parentOf x 0 t) (reachedSlot x t)
-  unfolding wayTo nodes
-  way-shows x sound =
-      let n = S .slots in
-      rw (root-full, slots-in p n (shows .length-is)) (descend-reaches n x 0 (shows-tree shows e) (omega (arith, sound-total sound, ap nodes e)))
+  unfolding wayTo
+  way-shows x sound = rw root-full (descend-reaches (slotsIn p) x 0 (shows-tree shows e) (size-within sound))
 
   pub leaf-shows : (x : ℕ) → slotAt p (reachedSlot x t) ≡ slot (reachedKey x t) 0 0 (reachedWeight x 1 t)
   leaf-shows x = reached-at x (shows-tree shows e) .content
