@@ -5,3 +5,4 @@ pub mod Sending
 pub mod Cleared
 pub mod Clearing
 pub mod Limit
+pub mod Decides
