@@ -92,7 +92,12 @@ pub extern "C" fn chromatic_load(pool: &mut [u32], saved: &[u8]) -> u64
 
 // 02 (iv): "Yes is code 0 and the attempt", which is marked then. Refusals in the order 15, 1, 2, 16, 7.
 #[no_mangle]
-pub extern "C" fn chromatic_may_send(pool: &mut [u32], notice: u32, resident: u32, limit: u32) -> u64
+pub extern "C" fn chromatic_may_send(
+    pool: &mut [u32],
+    notice: u32,
+    resident: u32,
+    limit: u32,
+) -> u64
     ensures result { λ r. ⌜ r ≡ returnedAnswer ((maySend (now (pool .entry)) notice resident limit) .answer) ⌝ }
     ensures pool { λ _. ⌜ now (pool .exit) ≡ (maySend (now (pool .entry)) notice resident limit) .left ⌝ }
 {
