@@ -125,11 +125,13 @@ extern crate std;
 mod answer;
 mod batch;
 mod layout;
+mod ledger;
 mod pool;
 pub mod raw;
 
 pub use answer::{Answer, Deleted, Inserted, Mark, Refused, Searched, Settled, Stepped};
 pub use batch::{Batch, Command, Full, Kind, NoKind};
+pub use ledger::{MaySend, Permit, Text};
 pub use pool::{Answers, Pool, Report, Words};
 
 #[cfg(doctest)]
