@@ -105,7 +105,8 @@ archive_replaced() {
     other_interface "$there/lib$lib.a" || return 1
     does_not_link env CHROMATIC_ARCHIVE="$there" cargo build --offline --quiet --manifest-path "$strange/replaced/Cargo.toml" || return 1
     # each function of raw.rs by itself
-    for call in 'prepare(&mut [])' 'audit(&[])' 'report(&[], 1)' 'batch(&mut [], &[], &mut [])' 'save(&[], &mut [])' 'load(&mut [], &[])'; do
+    for call in 'prepare(&mut [])' 'audit(&[])' 'report(&[], 1)' 'batch(&mut [], &[], &mut [])' 'save(&[], &mut [])' 'load(&mut [], &[])' \
+        'may_send(&mut [], 1, 0, 1)' 'clear_notice(&mut [], 1)'; do
         echo "fn main() { println!(\"{}\", chromatic::raw::$call); }" >"$strange/replaced/src/main.rs"
         does_not_link env CHROMATIC_ARCHIVE="$there" cargo build --offline --quiet --release --manifest-path "$strange/replaced/Cargo.toml" || return 1
     done
@@ -215,7 +216,8 @@ line_for_c() {
 }
 
 c_unused() {
-    for call in 'prepare(p, 8)' 'audit(p, 8)' 'report(p, 8, 1)' 'batch(p, 8, 0, 0, 0, 0)' 'save(p, 8, 0, 0)' 'load(p, 8, 0, 0)'; do
+    for call in 'prepare(p, 8)' 'audit(p, 8)' 'report(p, 8, 1)' 'batch(p, 8, 0, 0, 0, 0)' 'save(p, 8, 0, 0)' 'load(p, 8, 0, 0)' \
+        'may_send(p, 8, 1, 0, 1)' 'clear_notice(p, 8, 1)'; do
         printf '#include <chromatic.h>\nuint64_t f(uint32_t *p) { return chromatic_%s; }\n' "$call" >"$strange/used.c"
         printf '#include <chromatic.h>\nvoid f(uint32_t *p) { chromatic_%s; }\n' "$call" >"$strange/unused.c"
         cc -Wall -Werror -I "$root/host/include" -c -o "$strange/c.o" "$strange/used.c" || return 1
