@@ -43,18 +43,18 @@ pub fn at_or_above(pool: &[u32], key: u32) -> Option<u32> {
     let mut slot = root(pool);
     while slot != 0 {
         let node = read(pool, slot);
-        if node.right == 0 {
+        slot = if node.right == 0 {
             if node.key >= key {
                 return Some(node.key);
             }
             // All that is there lies above the key, so that the way leads down its left side.
-            slot = std::mem::take(&mut above);
-        } else if key <= node.key {
-            above = node.right;
-            slot = node.left;
+            std::mem::take(&mut above)
+        } else if key > node.key {
+            node.right
         } else {
-            slot = node.right;
-        }
+            above = node.right;
+            node.left
+        };
     }
     None
 }
