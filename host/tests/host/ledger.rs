@@ -256,19 +256,12 @@ const NO_NOTICES: [u32; 7] = [0, 65_536, 65_537, 131_071, 1 << 31, u32::MAX - 65
 const NO_RESIDENTS: [u32; 7] = [8_192, 8_193, 16_383, 65_535, 65_536, 1 << 29, u32::MAX];
 const NO_LIMITS: [u32; 8] = [0, 8, 9, 15, 255, 257, 1 << 31, u32::MAX];
 
-/// May_send with an argument outside its range: one of them, or more.
-fn out_of_range(rng: &mut Rng, (mut notice, mut resident, mut limit): (u32, u32, u32)) -> Call {
-    let which = rng.within(1, 7);
-    if which & 1 != 0 {
-        notice = rng.pick(&NO_NOTICES);
-    }
-    if which & 2 != 0 {
-        resident = rng.pick(&NO_RESIDENTS);
-    }
-    if which & 4 != 0 {
-        limit = rng.pick(&NO_LIMITS);
-    }
-    send(notice, resident, limit)
+/// May_send with each argument in turn outside its range, the others as they are.
+fn one_out_of_range((notice, resident, limit): (u32, u32, u32)) -> Vec<Call> {
+    let notices = NO_NOTICES.map(|notice| send(notice, resident, limit));
+    let residents = NO_RESIDENTS.map(|resident| send(notice, resident, limit));
+    let limits = NO_LIMITS.map(|limit| send(notice, resident, limit));
+    [&notices[..], &residents, &limits].concat()
 }
 
 #[test]
@@ -278,10 +271,14 @@ fn every_combination_of_causes_in_its_order() {
             let arguments = (rng.pick(&[1, 2, 4411, 65_535]), rng.pick(&[0, 1, 8_191]), rng.within(1, 7));
             let (notice, resident, limit) = arguments;
             let words = causes.words(rng, arguments);
-            let call = if causes.range { out_of_range(rng, arguments) } else { send(notice, resident, limit) };
-            assert_eq!(seen.ask(&words, call).0, causes.code(false), "{causes:?}: {call:?} on {words:?}");
-            let call = clear(if causes.range { rng.pick(&NO_NOTICES) } else { notice });
-            assert_eq!(seen.ask(&words, call).0, causes.code(true), "{causes:?}: {call:?} on {words:?}");
+            let sends = if causes.range { one_out_of_range(arguments) } else { vec![send(notice, resident, limit)] };
+            for call in sends {
+                assert_eq!(seen.ask(&words, call).0, causes.code(false), "{causes:?}: {call:?} on {words:?}");
+            }
+            for notice in if causes.range { &NO_NOTICES[..] } else { &[notice] } {
+                let call = clear(*notice);
+                assert_eq!(seen.ask(&words, call).0, causes.code(true), "{causes:?}: {call:?} on {words:?}");
+            }
         }
     });
     assert!([0, 1, 2, 7, 15, 16].iter().all(|&code| seen.sends[code] > 0), "{:?}", seen.sends);
@@ -429,8 +426,8 @@ fn random_days() {
                 match rng.below(40) {
                     0 => seen.restart(&mut pair),
                     1 => {
-                        let arguments = (town.notice(rng), rng.pick(&town.residents), 1);
-                        seen.call(&mut pair, out_of_range(rng, arguments));
+                        let arguments = (town.notice(rng), rng.pick(&town.residents), rng.pick(&town.limits));
+                        seen.call(&mut pair, rng.pick(&one_out_of_range(arguments)));
                         seen.call(&mut pair, clear(rng.pick(&NO_NOTICES)));
                     }
                     2 | 3 => {
