@@ -275,8 +275,7 @@ fn every_combination_of_causes_in_its_order() {
             for call in sends {
                 assert_eq!(seen.ask(&words, call).0, causes.code(false), "{causes:?}: {call:?} on {words:?}");
             }
-            for notice in if causes.range { &NO_NOTICES[..] } else { &[notice] } {
-                let call = clear(*notice);
+            for call in if causes.range { NO_NOTICES.map(clear).to_vec() } else { vec![clear(notice)] } {
                 assert_eq!(seen.ask(&words, call).0, causes.code(true), "{causes:?}: {call:?} on {words:?}");
             }
         }
