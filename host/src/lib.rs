@@ -137,7 +137,8 @@
 //! a batch does for all its marks.
 //!
 //! Storing has its own order, or a power cut leaves half a file: write beside the old file, flush, rename over it, flush
-//! the folder. examples/restart.rs does this, and is tested with a kill and with a power cut at every step of it.
+//! the folder. examples/store does this, for examples/restart.rs and examples/dispatcher.rs, and both are tested with a kill
+//! and with a power cut at every step.
 //!
 //! A load that is refused ([`Refused::BadSaved`], [`Refused::NoFit`]) and a file that is not there say nothing about who
 //! was told. **Then nothing is sent.** An empty set in their place sends every text again, so a service never begins one by

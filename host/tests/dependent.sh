@@ -6,6 +6,7 @@ dependent() {
     log=$target/dependent.log
     one "README.md's program in a fresh crate prints what the page says" "$log" pasted "$root/README.md" one
     one "host/README.md's program in a fresh crate prints what the page says" "$log" pasted "$root/host/README.md" two
+    one "and so does its program of the send limit" "$log" pasted "$root/host/README.md" three '### The send limit'
     one "the crate brings no other crate" "$log" no_other_crate
     one "the archive's folder by CHROMATIC_ARCHIVE, whole and relative, without rt" "$log" folder_named
     if [ -n "$shipped" ]; then
@@ -33,8 +34,10 @@ fresh_crate() { # FOLDER [HOST [PAGE]]: without a program; the dependency as REA
     printf '[package]\nname = "stranger"\nversion = "0.1.0"\nedition = "2021"\n\n' >"$1/Cargo.toml"
     block toml "${3:-$root/README.md}" | sed "s,where/this/is/host,${2:-$root/host}," >>"$1/Cargo.toml"
 }
-block() { # LANGUAGE FILE: the first such block of a page, which may stand in a list
-    awk -v fence="\`\`\`$1" '{ line = $0; sub(/^ +/, "", line) } line == fence { inside = 1; next } line ~ /^```/ && inside { exit } inside' "$2"
+block() { # LANGUAGE FILE [HEADING]: the first such block of a page, or after that heading; it may stand in a list
+    awk -v fence="\`\`\`$1" -v heading="${3-}" '
+        heading != "" { if ($0 == heading) heading = ""; next }
+        { line = $0; sub(/^ +/, "", line) } line == fence { inside = 1; next } line ~ /^```/ && inside { exit } inside' "$2"
 }
 # Runs cargo in a folder as a user's shell would, with nothing of ours in its environment but what stands before it.
 cargo_in() { # FOLDER SUBCOMMAND...
@@ -43,10 +46,10 @@ cargo_in() { # FOLDER SUBCOMMAND...
     (cd "$folder" && cargo "$@" --offline --quiet)
 }
 
-pasted() { # PAGE NAME
+pasted() { # PAGE NAME [HEADING]
     fresh_crate "$strange/$2" "$root/host" "$1"
-    block rust "$1" >"$strange/$2/src/main.rs"
-    block text "$1" >"$strange/$2/expected"
+    block rust "$1" "${3-}" >"$strange/$2/src/main.rs"
+    block text "$1" "${3-}" >"$strange/$2/expected"
     [ -s "$strange/$2/expected" ] || { echo "$1 does not say what its program prints"; return 1; }
     cargo_in "$strange/$2" run >"$strange/$2/printed" || return 1
     diff "$strange/$2/expected" "$strange/$2/printed"

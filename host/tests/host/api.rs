@@ -267,8 +267,8 @@ fn the_page_s_batch_goes_wrong_at_byte_40() -> Result<(), Box<dyn Error>> {
     }
     // what it says that these are, and its one fault
     let mut batch = Batch::new();
-    for resident in 1..=6 {
-        batch.push_insert(4411 << 16 | resident)?;
+    for attempt in 1..=6 {
+        batch.push_insert(4411 << 16 | attempt)?;
     }
     batch.push_settle(9)?;
     batch.push_step(1, Kind::Three)?;
