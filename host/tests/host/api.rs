@@ -662,12 +662,13 @@ fn a_notice_is_cleared() -> Result<(), Refused> {
 fn a_failed_send_uses_the_next_attempt() -> Result<(), Refused> {
     let mut pool = Pool::prepare(vec![0; Pool::words_for(15)])?;
     let text = Text { notice: 9, resident: 8 };
-    let fails = |permit: Permit| permit.attempt();
-    let tried: Vec<u32> = std::iter::from_fn(|| match pool.may_send(text, 3) {
-        Ok(MaySend::Yes(permit)) => Some(fails(permit)),
-        _ => None,
-    })
-    .collect();
+    let mut tried = vec![];
+    for _poll in 0..9 {
+        match pool.may_send(text, 3)? {
+            MaySend::Yes(permit) => tried.push(permit.attempt()), // and its text fails
+            other => assert!(matches!(other, MaySend::AllUsed), "{other:?}"),
+        }
+    }
     assert_eq!(tried, [1, 2, 3]);
     assert_eq!(attempts(&mut pool, text), [1, 2, 3]);
     Ok(())
