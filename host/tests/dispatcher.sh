@@ -7,7 +7,8 @@ dispatchers() {
     one "dispatcher killed at every step keeps every limit" "$log" within_limits "$program" before after half
     one "dispatcher keeps every limit after a power cut at every step" "$log" within_limits "$program" data names
     one "dispatcher keeps every limit where a call or a text fails, and the next attempt goes" "$log" within_limits "$program" full
-    one "dispatcher killed anywhere while it begins" "$log" begins_anywhere "$program"
+    one "dispatcher killed anywhere while it begins" "$log" killed_in_begin "$program" 12 sends_all
+    planted "the marks are begun before the book" '/^    if !store.path(Book::FILE)/,/^    }/d; s/^    store.begin()$/    store.begin()?;\n    Book::default().save(store)/' killed_in_begin 12 sends_all
     planted "a full set sends" 's,MaySend::NoRoom =>.*,MaySend::NoRoom => println!("  text {notice}/{resident}/1: no room"),' within_limits before
     planted "a notice is cleared to make room" 's/asked.no_room += 1,/asked.no_room += self.pool.clear_notice(notice)? as usize,/' within_limits before
     planted "the texts go before the save" '/self.store.save(&self.pool).map_err/d; s/^        self.settle()$/        self.store.save(\&self.pool)?;\n&/' within_limits before
@@ -97,21 +98,8 @@ no_text_too_many() { # LIVES
         }' "$1"
 }
 
-# Killed while it begins, it can be gone on from there: there are no marks, or an empty set and its book.
-begins_anywhere() { # PROGRAM
-    polls >"$area/polls"
-    for how in before after half data names; do
-        at=0 status=137
-        while [ "$status" -eq 137 ]; do
-            at=$((at + 1)) status=0
-            rm -rf "$store"
-            mkdir -p "$store"
-            killing "$at" "$how" "$1" begin >"$area/said" 2>&1 || status=$?
-            "$1" begin "$store" >>"$area/said" 2>&1 || grep -q 'there are marks already' "$area/said" || { cat "$area/said"; return 1; }
-            [ "$("$1" serve "$store" <"$area/polls" | grep -c '^  text ')" -eq 12 ] || { echo "killed at call $at ($how) of begin"; return 1; }
-        done
-        [ "$status" -eq 0 ] && [ "$at" -gt 12 ] || { cat "$area/said"; echo "status $status at call $at ($how)"; return 1; }
-    done
+sends_all() { # PROGRAM: from an empty set and its book
+    [ "$(polls | "$1" serve "$store" | grep -c '^  text ')" -eq 12 ]
 }
 
 # The accident of 5:04, and what comes after it: what is printed is what is known to be printed.

@@ -27,7 +27,7 @@ restarts() {
     one "restart killed at every call comes up with every mark" "$log" killed_anywhere "$program" before after half
     one "restart comes up with every mark after a power cut at every call" "$log" killed_anywhere "$program" data names
     one "restart comes up with every mark after a full disk at every call" "$log" full_anywhere "$program"
-    one "restart killed anywhere while it begins" "$log" killed_in_begin "$program"
+    one "restart killed anywhere while it begins" "$log" killed_in_begin "$program" 6 sends_ten
     planted "the file is written in place" 's/File::create(&beside)/File::create(\&there)/; /fs::rename/d' killed_anywhere before after half
     planted "the text goes before the save" '/^ *store.save(&pool)/,/})?;/d; s/send(mark);/send(mark); store.save(\&pool)?;/' killed_anywhere before after half
     planted "the rename comes before the flush" 's/file.sync_all()?;//; s/fs::rename(.*)?;/& file.sync_all()?;/' killed_anywhere data names
@@ -154,20 +154,25 @@ once() { # FIRST SECOND
         }' "$1" "$2"
 }
 
-# Killed while it begins, there are no marks or an empty set, and either way it can be gone on from there.
-killed_in_begin() { # PROGRAM
+# Killed while it begins, there are no marks or an empty set, and either way it can be gone on from there: then the command holds.
+killed_in_begin() { # PROGRAM CALLS COMMAND...: begin makes more calls than that
+    tried=$1 calls=$2
+    shift 2
     for how in before after half data names; do
         at=0 status=137
         while [ "$status" -eq 137 ]; do
             at=$((at + 1)) status=0
             rm -rf "$store"
             mkdir -p "$store"
-            killing "$at" "$how" "$1" begin >"$area/said" 2>&1 || status=$?
-            "$1" begin "$store" >>"$area/said" 2>&1 || grep -q 'there are marks already' "$area/said" || { cat "$area/said"; return 1; }
-            [ "$(echo 10 | "$1" serve "$store" | tr '\n' ';')" = 'up with 0 marks of 64;10: text sent;' ] || { echo "killed at call $at ($how) of begin"; return 1; }
+            killing "$at" "$how" "$tried" begin >"$area/said" 2>&1 || status=$?
+            "$tried" begin "$store" >>"$area/said" 2>&1 || grep -q 'there are marks already' "$area/said" || { cat "$area/said"; return 1; }
+            "$@" "$tried" || { echo "killed at call $at ($how) of begin"; return 1; }
         done
-        [ "$status" -eq 0 ] && [ "$at" -gt 6 ] || { cat "$area/said"; echo "status $status at call $at ($how)"; return 1; }
+        [ "$status" -eq 0 ] && [ "$at" -gt "$calls" ] || { cat "$area/said"; echo "status $status at call $at ($how)"; return 1; }
     done
+}
+sends_ten() { # PROGRAM
+    [ "$(echo 10 | "$1" serve "$store" | tr '\n' ';')" = 'up with 0 marks of 64;10: text sent;' ]
 }
 
 in_order() { # PROGRAM
