@@ -190,6 +190,11 @@ pub extern "C" fn marked(words: &mut [u32; 12]) -> bool {
     chromatic::Pool::resume(&mut words[..]).is_ok_and(|mut pool| matches!(pool.insert(1), Ok(chromatic::Inserted::NewlyMarked(_))))
 }
 #[no_mangle]
+pub extern "C" fn permitted(words: &mut [u32; 12], notice: u32, resident: u32) -> bool {
+    let text = chromatic::Text { notice, resident };
+    chromatic::Pool::resume(&mut words[..]).is_ok_and(|mut pool| matches!(pool.may_send(text, 3), Ok(chromatic::MaySend::Yes(_))))
+}
+#[no_mangle]
 pub extern "C" fn restarted(words: &mut [u32; 12], saved: &mut [u8; chromatic::Pool::saved_bytes_for(2)]) -> bool {
     chromatic::Pool::load(&mut words[..], saved).is_ok_and(|pool| pool.save(saved).is_ok())
 }
