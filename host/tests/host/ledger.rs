@@ -36,9 +36,14 @@ impl Seen {
         }
     }
 
-    /// On a sound pool.
+    /// On a sound pool. Its words after are those after the commands that the call stands for, without the twin.
     fn call(&mut self, pair: &mut Pair, call: Call) -> Answer {
+        let mut words = pair.words.clone();
         let answer = pair.call(call);
+        for some in stands_for(call, answer, &words.clone()).chunks(256) {
+            assert_eq!(library_batch(&mut words, &Command::all(some), &mut vec![0; 2 * some.len()]), (0, 0));
+        }
+        assert_eq!(pair.words, words, "{call:?}, answered {answer:?}");
         self.add(call, answer);
         answer
     }
@@ -103,6 +108,20 @@ fn held(words: &[u32]) -> Vec<u32> {
     let mut keys: Vec<u32> = leaves.map(|slot| slot[0]).collect();
     keys.sort_unstable();
     keys
+}
+
+/// Whether a key is a mark of the notice.
+fn is_mark_of(notice: u32, key: u32) -> bool {
+    key / 65_536 == notice && key % 8 != 0
+}
+
+/// The commands that a call with this answer stands for: the insert of one mark, or the delete of each, smallest first.
+fn stands_for(call: Call, (code, number): Answer, before: &[u32]) -> Vec<Command> {
+    match call {
+        _ if code != 0 => vec![],
+        Call::MaySend { notice, resident, .. } => vec![Command::Insert(key(notice, resident, number))],
+        Call::Clear { notice } => held(before).into_iter().filter(|&key| is_mark_of(notice, key)).map(Command::Delete).collect(),
+    }
 }
 
 // Worked by hand, without the twin's answers: what 02 says, in numbers.
@@ -395,24 +414,6 @@ impl Town {
     }
 }
 
-/// The words after a clearing are those after single deletes of the marks, smallest first, in batches.
-fn as_single_deletes(before: &[u32], notice: u32, after: &[u32]) {
-    let marks = held(before).into_iter().filter(|key| key / 65_536 == notice && key % 8 != 0);
-    let deletes: Vec<Command> = marks.map(Command::Delete).collect();
-    let mut words = before.to_vec();
-    for some in deletes.chunks(256) {
-        assert_eq!(library_batch(&mut words, &Command::all(some), &mut vec![0; 2 * some.len()]), (0, 0));
-    }
-    assert_eq!(after, words, "clearing {notice} in {before:?}");
-}
-
-fn clear_seen(pair: &mut Pair, notice: u32, seen: &mut Seen) -> Answer {
-    let before = pair.words.clone();
-    let answer = seen.call(pair, clear(notice));
-    as_single_deletes(&before, notice, &pair.words);
-    answer
-}
-
 const SMALL: [usize; 13] = [1, 2, 3, 4, 5, 7, 8, 9, 15, 16, 31, 63, 127];
 
 #[test]
@@ -430,8 +431,7 @@ fn random_days() {
                         seen.call(&mut pair, clear(rng.pick(&NO_NOTICES)));
                     }
                     2 | 3 => {
-                        let notice = town.notice(rng);
-                        clear_seen(&mut pair, notice, seen);
+                        seen.call(&mut pair, clear(town.notice(rng)));
                     }
                     4..=18 => {
                         let command = town.command(rng, &pair.twin);
@@ -537,8 +537,8 @@ fn never_more_than_the_limit() {
             for _ in 0..300 {
                 match rng.below(16) {
                     0 if clears => {
-                        let notice = town.notice(rng);
-                        counted.add(clear(notice), clear_seen(&mut pair, notice, seen));
+                        let call = clear(town.notice(rng));
+                        counted.add(call, seen.call(&mut pair, call));
                     }
                     1 => seen.restart(&mut pair),
                     2..=4 => {
@@ -562,8 +562,8 @@ fn never_more_than_the_limit() {
     assert!(share() > 1 || used_up > 100 && full > 1000, "limits and full pools are met");
 }
 
-/// The accident of 5:04: the set is full, and the sender asks again, 211 times. Who has a yes left gets no text, and no one
-/// gets one again.
+/// The accident of 5:04: the set is full, and the sender asks again, 211 times, the gateway restarted in the middle. Who has a
+/// yes left gets no text, and no one gets one again.
 #[test]
 fn a_full_pool_is_asked_211_times() {
     let mut rng = Rng::seeded("5:04", 33_000);
@@ -575,8 +575,13 @@ fn a_full_pool_is_asked_211_times() {
                 let all = (0..).flat_map(|resident| (0..limit).map(move |_| send(504, resident, limit)));
                 let yes = all.take_while(|&call| pair.call(call).0 == 0).count();
                 assert_eq!(yes, slots.div_ceil(2), "as many marks as the pool holds");
-                let before = pair.words.clone();
-                for _ in 0..211 {
+                let mut before = pair.words.clone();
+                for turn in 0..211 {
+                    if turn == 105 {
+                        seen.restart(&mut pair);
+                        assert_eq!(held(&pair.words), held(&before));
+                        before = pair.words.clone();
+                    }
                     let (notice, resident) = (rng.pick(&[504, 504, 504, 505]), rng.within(0, yes as u32 / limit + 1));
                     let code = seen.call(&mut pair, send(notice, resident, limit)).0;
                     assert!(code == 7 || code == 16, "{code} in a full set");
@@ -602,11 +607,6 @@ fn edge_keys(notice: u32) -> Vec<u32> {
     near.iter().filter_map(|by| u32::try_from(first + by).ok()).collect()
 }
 
-/// Whether a key is a mark of the notice.
-fn is_mark_of(notice: u32, key: u32) -> bool {
-    key / 65_536 == notice && key % 8 != 0
-}
-
 #[test]
 fn clearing_takes_the_notice_and_nothing_beside_it() {
     seeded("edges of a notice", 34_000, 20, |rng, seen| {
@@ -623,7 +623,7 @@ fn clearing_takes_the_notice_and_nothing_beside_it() {
                     let level = if keys.len() == 1 { 0 } else { level };
                     let mut pair = Pair::holding(grown(rng, slots, &keys, level, shape, weights));
                     let (gone, left): (Vec<u32>, Vec<u32>) = keys.iter().partition(|&&key| is_mark_of(notice, key));
-                    assert_eq!(clear_seen(&mut pair, notice, seen), (0, gone.len() as u32), "{keys:?}");
+                    assert_eq!(seen.call(&mut pair, clear(notice)), (0, gone.len() as u32), "{keys:?}");
                     assert_eq!(held(&pair.words), left, "notice {notice} of {keys:?}");
                     pair.look();
                 }
@@ -650,7 +650,7 @@ fn clearing_a_notice_that_fills_the_pool() {
                 let weights = rng.pick(&WEIGHTS);
                 let mut pair = Pair::holding(grown(rng, slots, &keys, level, shape, weights));
                 let gone = count - usize::from(spare);
-                assert_eq!(clear_seen(&mut pair, notice, seen), (0, gone as u32));
+                assert_eq!(seen.call(&mut pair, clear(notice)), (0, gone as u32));
                 assert_eq!(held(&pair.words), keys[..usize::from(spare)]);
                 let room = slots > 2 || !spare;
                 assert_eq!(seen.call(&mut pair, send(notice, *RESIDENTS.end(), 1)), if room { (0, 1) } else { (7, 0) });
