@@ -263,14 +263,15 @@ fn save_stays_linear() {
 /// marks is as many deletes, each of them a way down, so that in a chain it is a square, as those deletes are.)
 #[test]
 fn may_send_stays_linear() {
+    type Words = fn(usize) -> Vec<u32>;
     // All are full, so that no call changes them: 7, and 16 where all attempts are marked.
-    let pools: [(&str, u32, fn(usize) -> Vec<u32>); 3] = [
+    let pools: [(&str, u32, Words); 3] = [
         ("the deepest sound tree", 7, |slots| deepest(slots, Shape::ChainRight).words()),
         ("the deepest tree of marks to the left", 16, |slots| deepest_of_a_notice(slots, Shape::ChainLeft)),
         ("the deepest tree of marks to the right", 16, |slots| deepest_of_a_notice(slots, Shape::ChainRight)),
     ];
-    for (name, code, made) in pools {
-        let mut pools = SIZES.map(made);
+    for (name, code, words) in pools {
+        let mut pools = SIZES.map(words);
         assert_linear(&format!("may_send on {name}"), "C", SIZES, |size| {
             assert_eq!(library_call(black_box(&mut pools[size]), SEND), (code, 0));
         });

@@ -40,7 +40,8 @@ impl Seen {
     fn call(&mut self, pair: &mut Pair, call: Call) -> Answer {
         let mut words = pair.words.clone();
         let answer = pair.call(call);
-        for some in stands_for(call, answer, &words.clone()).chunks(256) {
+        let commands = stands_for(call, answer, &words);
+        for some in commands.chunks(256) {
             assert_eq!(library_batch(&mut words, &Command::all(some), &mut vec![0; 2 * some.len()]), (0, 0));
         }
         assert_eq!(pair.words, words, "{call:?}, answered {answer:?}");
@@ -416,47 +417,71 @@ impl Town {
 
 const SMALL: [usize; 13] = [1, 2, 3, 4, 5, 7, 8, 9, 15, 16, 31, 63, 127];
 
+/// Calls and commands of all kinds, restarts, and calls on a damaged copy, one at a time.
+fn day(rng: &mut Rng, seen: &mut Seen, town: &Town, pair: &mut Pair, turns: usize) {
+    for turn in 0..turns {
+        match rng.below(40) {
+            0 => seen.restart(pair),
+            1 => {
+                let arguments = (town.notice(rng), rng.pick(&town.residents), rng.pick(&town.limits));
+                seen.call(pair, rng.pick(&one_out_of_range(arguments)));
+                seen.call(pair, clear(rng.pick(&NO_NOTICES)));
+            }
+            2 | 3 => {
+                seen.call(pair, clear(town.notice(rng)));
+            }
+            4..=18 => {
+                let command = town.command(rng, &pair.twin);
+                seen.run(pair, command);
+            }
+            19 => {
+                let mut words = pair.words.clone();
+                let at = rng.below(words.len());
+                words[at] = words[at].wrapping_add(rng.pick(&[1, 2, u32::MAX, 1 << 16]));
+                seen.ask(&words, town.send(rng));
+                seen.ask(&words, clear(town.notice(rng)));
+            }
+            _ => {
+                seen.call(pair, town.send(rng));
+            }
+        }
+        if turn % 100 == 0 {
+            pair.look();
+        }
+    }
+}
+
 #[test]
 fn random_days() {
     let seen = seeded("days", 31_000, 300, |rng, seen| {
         for slots in SMALL {
             let town = Town::some(rng, LIMITS.collect());
-            let mut pair = Pair::prepared(slots);
-            for i in 0..400 {
-                match rng.below(40) {
-                    0 => seen.restart(&mut pair),
-                    1 => {
-                        let arguments = (town.notice(rng), rng.pick(&town.residents), rng.pick(&town.limits));
-                        seen.call(&mut pair, rng.pick(&one_out_of_range(arguments)));
-                        seen.call(&mut pair, clear(rng.pick(&NO_NOTICES)));
-                    }
-                    2 | 3 => {
-                        seen.call(&mut pair, clear(town.notice(rng)));
-                    }
-                    4..=18 => {
-                        let command = town.command(rng, &pair.twin);
-                        seen.run(&mut pair, command);
-                    }
-                    19 => {
-                        let mut words = pair.words.clone();
-                        let at = rng.below(words.len());
-                        words[at] = words[at].wrapping_add(rng.pick(&[1, 2, u32::MAX, 1 << 16]));
-                        seen.ask(&words, town.send(rng));
-                        seen.ask(&words, clear(town.notice(rng)));
-                    }
-                    _ => {
-                        seen.call(&mut pair, town.send(rng));
-                    }
-                }
-                if i % 100 == 0 {
-                    pair.look();
-                }
-            }
+            day(rng, seen, &town, &mut Pair::prepared(slots), 400);
         }
     });
     let often = |codes: &[u64], wanted: &[usize]| wanted.iter().all(|&code| codes[code] > 1000);
     assert!(share() > 1 || often(&seen.sends, &[0, 2, 7, 15, 16]) && often(&seen.clearings, &[0, 2, 15]), "each code is seen");
     assert!(share() > 1 || seen.attempts[1..].iter().all(|&yes| yes > 500), "each attempt is seen");
+}
+
+/// Pools of up to 1,023 slots, full of other marks before the day begins, or nearly so.
+#[test]
+fn days_in_the_largest_pools() {
+    seeded("days in large pools", 36_000, 6, |rng, seen| {
+        for slots in [255, 1022, MOST_SLOTS] {
+            let town = Town { notices: vec![1, 2, 65_535], residents: (0..60).chain([8_191]).collect(), limits: LIMITS.collect() };
+            let count = slots.div_ceil(2) - rng.below(20);
+            let mut keys: Vec<u32> = (0..2 * count).map(|_| town.any_key(rng)).collect();
+            keys.sort_unstable();
+            keys.dedup();
+            rng.shuffle(&mut keys);
+            keys.truncate(count);
+            keys.sort_unstable();
+            let (level, shape, weights) = (rng.pick(&[1, 5, 255]), rng.pick(&SHAPES), rng.pick(&WEIGHTS));
+            let mut pair = Pair::holding(grown(rng, slots, &keys, level, shape, weights));
+            day(rng, seen, &town, &mut pair, 200);
+        }
+    });
 }
 
 /// Every pool that calls and some commands lead to from an empty one of few slots, and on each of them every call.
