@@ -4,8 +4,12 @@
 
 dispatchers() {
     service_built dispatcher || return 0
-    one "dispatcher killed at every step keeps every limit" "$log" within_limits "$program" before after half
-    one "dispatcher keeps every limit after a power cut at every step" "$log" within_limits "$program" data names
+    for how in before after half; do
+        one "dispatcher killed at every step ($how) keeps every limit" "$log" within_limits "$program" "$how"
+    done
+    for how in data names; do
+        one "dispatcher keeps every limit after a power cut at every step ($how)" "$log" within_limits "$program" "$how"
+    done
     one "dispatcher keeps every limit where a call or a text fails, and the next attempt goes" "$log" within_limits "$program" full
     one "dispatcher killed anywhere while it begins" "$log" killed_in_begin "$program" 12 sends_all
     planted "the marks are begun before the book" '/^    if !store.path(Book::FILE)/,/^    }/d; s/^    store.begin()$/    store.begin()?;\n    Book::default().save(store)/' killed_in_begin 12 sends_all
@@ -26,39 +30,32 @@ polls() {
         '5:09 over 2' '5:10 notice 3 residents 8190 to 8191 limit 3' 5:11
 }
 
-# From an empty set, for each of its calls on files and each text: two lives that end there, and a third one to its end. Each is given all
-# the polls. Unless it is killed, a life that a failed call does not end goes on.
-within_limits() { # PROGRAM HOW...
+# From an empty set, for each of its calls on files and each text: two lives that end there, if they come so far, and a third one to its
+# end. Each is given all the polls. (With the word full a life goes on after the failed call, if that was a text.)
+within_limits() { # PROGRAM HOW
     tried=$1
-    shift
     polls >"$area/polls"
     rm -f "$area/calls" "$area/facts"
     begun || return 1
     KILLER_LOG="$area/calls" LD_PRELOAD="$area/killer.so" "$tried" serve "$store" <"$area/polls" >"$area/said" || { cat "$area/said"; return 1; }
     steps=$(wc -l <"$area/calls")
     [ "$steps" -ge 60 ] || { echo "there are more than $steps calls: the killer is not loaded"; return 1; }
-    for how do
-        step=0
-        while [ "$step" -lt "$steps" ]; do
-            step=$((step + 1))
-            begun || return 1
-            three_lives "$step" "$how" && no_text_too_many "$area/lives" >>"$area/facts" || {
-                echo "where two lives end at call $step ($how), the three print:"
-                cat "$area/lives" "$area/errors"
-                tail -n 1 "$area/facts"
-                return 1
-            }
-        done
+    step=0
+    while [ "$step" -lt "$steps" ]; do
+        step=$((step + 1))
+        begun || return 1
+        three_lives "$step" "$2" && no_text_too_many "$area/lives" >>"$area/facts" || {
+            echo "where two lives end at call $step ($2), the three print:"
+            cat "$area/lives" "$area/errors"
+            tail -n 1 "$area/facts"
+            return 1
+        }
     done
-    echo "$steps steps, each of: $*"
-    sort "$area/facts" | uniq -c
     # what the test is for has been met
-    wanted='limit of notice 1 reached;limit of notice 2 reached;limit of notice 3 reached'
-    case $1 in full) wanted="$wanted;an attempt failed, the next went" ;; esac
-    echo "$wanted" | tr ';' '\n' >"$area/wanted"
-    while read -r fact; do
+    for fact in 'limit of notice 1 reached' 'limit of notice 2 reached' 'limit of notice 3 reached' 'an attempt failed, the next went'; do
+        [ "$2" = full ] || [ "$fact" != 'an attempt failed, the next went' ] || continue
         grep -qx "$fact" "$area/facts" || { echo "never met: $fact"; return 1; }
-    done <"$area/wanted"
+    done
 }
 begun() {
     [ -d "$area/begun" ] || { mkdir "$area/begun" && "$program" begin "$area/begun"; } || return 1
