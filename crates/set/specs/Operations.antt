@@ -1,5 +1,5 @@
--- The set's operations, for a product above it: what each answers, and the words that it leaves. This page serves RULES 17: but for the audit's
--- answer it passes names on, which a crate above may cite and cannot unfold.
+-- The set's operations, for a product above it: what each answers, and the words that it leaves. But for the audit's answer this page passes
+-- names on, which a crate above may cite and cannot unfold. It serves RULES 1, 2, 3, 9 and 17.
 use mathlib.Core.List.{List}
 use Prim.Native.Nat.{ℕ}
 use Rattle.tree.specs.declared.Answer.{Answer}
