@@ -13,14 +13,16 @@ use Rattle.format.specs.Audit.{stateOf}
 use Rattle.encoding.specs.Batch.{commands, readBatch, runAll, Call, called, refused, batch}
 use Rattle.format.proofs.Shown.{shows-words}
 use Rattle.set.specs.Set.{Passing}
-use Rattle.set.proofs.Passing.{passing, passing-state}
+use Rattle.set.proofs.Passing.{passing, passing-state, passing-words}
+use Rattle.ledger.proofs.Sending.{send-passing}
 use Rattle.encoding.specs.Numbers.{Bytes}
 use Rattle.encoding.proofs.Endings.{Ending, length-refused, bad-command, few-answers, rules-refused, ran, ending}
 use Rattle.encoding.proofs.Performs.{AllSmall, run-sound}
-use Rattle.demands.specs.Calls.{Entry, logOf, Calls, no-call, then-call, then-restart}
+use Rattle.demands.specs.Calls.{Entry, logOf, Calls, no-call, then-call, then-restart, then-send, then-clear}
 use Rattle.commands.proofs.Running.{read-small}
 use Rattle.demands.proofs.Runs.{entriesOf, log-none, log-ran}
 use Rattle.demands.proofs.Restarting.{restart-passing}
+use Rattle.demands.proofs.Ledger.{clear-passing}
 
 -- the commands cs ran
 pub record Ran (p bytes out : List ℕ) (cs : List Command) : Type 0 where
@@ -83,3 +85,5 @@ pub calls-passing : {p q : List ℕ} {log : List Entry} → Passing p → Calls 
 calls-passing g no-call = g
 calls-passing g (then-call before bytes out b) = call-passing (calls-passing g before) bytes out b
 calls-passing g (then-restart before R) = restart-passing (calls-passing g before) R
+calls-passing g (then-send {q = q} before n r l) = let h = calls-passing g before in send-passing q n r l (passing-words h) h
+calls-passing g (then-clear {q = q} before n) = let h = calls-passing g before in clear-passing q n (passing-words h) h
