@@ -127,8 +127,8 @@ module _ {p : List ℕ} (g : Passing p) (n r l x : ℕ) where
   unfolding puts
   yes-told s z = same-or-not key x
       (λ e.
-          let none : member x p ≡ 0 = rw e at (s .attempt-is .unmarked) in
-          omega (arith, s .one-more .members x, one-same x key (sym e), tells-put x sent (member x p) (rw (eq-eqb _ _ e, eq-eqb _ _ z))))
+      let none : member x p ≡ 0 = rw e at (s .attempt-is .unmarked) in
+      omega (arith, s .one-more .members x, one-same x key (sym e), tells-put x sent (member x p) (rw (eq-eqb _ _ e, eq-eqb _ _ z))))
       (λ d. omega (arith, s .one-more .members x, one-other x key (λ e. d (sym e)), send-kept (rw (ne-eqb _ _ d))))
 
   send-told : member x ((maySend p n r l) .left) ≡ tells x sent (member x p)
