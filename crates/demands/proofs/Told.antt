@@ -3,16 +3,16 @@
 -- with code 0" (`told-from-exactly`). Assumes nothing.
 use mathlib.Core.Path.{_≡_, refl, ap, sym, _∙_}
 use mathlib.Core.Logic.{_≢_, _↔_, inl, inr}
-use mathlib.Core.Bool.{Bool, true, false, not, _&&_, false≢true, and-false}
+use mathlib.Core.Bool.{Bool, true, false, and-false}
 use mathlib.Core.List.{List, [], _∷_, _++_}
-use lib.Dec.{eqb}
-use borrow.Author.Tests.{eq-eqb, ne-eqb, leb-true, le-leb}
+use borrow.Author.Tests.{eq-eqb, ne-eqb, eqb-false, leb-true, le-leb, not-true}
 use native.Mathlib.Omega.{arith}
 use Prim.Native.Nat.{ℕ}
+use Rattle.tree.proofs.Tests.{three-true}
 use Rattle.encoding.specs.declared.Operation.the-variants.{Insert, Delete}
 use Rattle.encoding.specs.declared.Command.{Command}
 use Rattle.encoding.specs.Operations.{operationNumber}
-use Rattle.ledger.specs.Ledger.{mostResident, mostAttempts, markKey, attemptOf}
+use Rattle.ledger.specs.Ledger.{mostResident, mostAttempts, markKey}
 use Rattle.ledger.specs.Sends.{IsMark}
 use Rattle.ledger.proofs.Arguments.{mark-of}
 use Rattle.demands.specs.Calls.{Entry, of-command, isOf, isMark, puts, takes, tells, toldFrom, told, NoneTakes, InsertedSince, KeptOrInserted}
@@ -54,26 +54,17 @@ module _ (x : ℕ) (c : Command) (code number before : ℕ) where
   unfolding puts takes isOf
   tells-delete o k z = tells-taken x (of-command c code number) before (rw o) (rw (o, eq-eqb _ _ k, eq-eqb _ _ z))
 
--- what both tests of an `and` say
-both : (a b : Bool) → (a && b) ≡ true → (a ≡ true) × (b ≡ true)
-both true b h = (refl, h)
-both false b h = absurd (false≢true h)
-
 -- The test for a notice's marks says what the send limit's page says.
 pub is-mark : (n x : ℕ) → (isMark n x ≡ true) ↔ IsMark n x
 unfolding isMark markKey
 is-mark n x = (
   λ h.
-      let a = both _ _ h in
-      let b = both _ _ (a .0) in
-      mark-of n x .1 (leb-true (markKey n 0 0) x (b .0), omega (arith, leb-true x (markKey n mostResident mostAttempts) (b .1)), not-same (a .1)),
+      let t = three-true _ _ _ h in
+      mark-of n x .1 (leb-true _ x (t .0), omega (arith, leb-true x (markKey n mostResident mostAttempts) (t .1)), eqb-false _ 0 (not-true _ (t .2))),
   λ m.
       let k = mark-of n x .0 m in
-      rw (le-leb (markKey n 0 0) x (k .0), le-leb x (markKey n mostResident mostAttempts) (omega (arith, k .1)), ne-eqb (attemptOf x) 0 (k .2)),
+      rw (le-leb _ x (k .0), le-leb x (markKey n mostResident mostAttempts) (omega (arith, k .1)), ne-eqb _ 0 (k .2)),
 )
-  where
-    not-same : not (eqb (attemptOf x) 0) ≡ true → attemptOf x ≢ 0
-    not-same h z = false≢true (rw (eq-eqb _ _ z) at h)
 
 pub told-append : (x before : ℕ) (l m : List Entry) → toldFrom x before (l ++ m) ≡ toldFrom x (toldFrom x before l) m
 unfolding toldFrom
