@@ -1,5 +1,6 @@
 -- The order of refusals that both calls share: 15, then the audit's 1 or 2, then what the call does (`judged-outside`, `judged-unaudited`,
--- `judged-on`), and how a judged call ends (`judged-ends`). Assumes nothing.
+-- `judged-on`), and how a judged call ends (`judged-ends`); and of each of the two, with the first key as the code computes it. Assumes
+-- nothing.
 use mathlib.Core.Path.{_≡_, refl, ap, _∙_}
 use mathlib.Core.Logic.{_≢_}
 use mathlib.Core.Bool.{Bool, true, false}
@@ -12,7 +13,7 @@ use Rattle.tree.specs.declared.Refusal.the-variants.{PoolLength, RulesBroken, O
 use Rattle.set.specs.Operations.{codeOf, Call, gives, refuses, lengthGood, auditAnswer}
 use Rattle.set.specs.Set.{Passing, Audits, wrong-length, rules-broken, audit-passed}
 use Rattle.set.proofs.Promises.{Words32, audit-says}
-use Rattle.ledger.specs.Ledger.{noticeKeys, residentKeys, argumentsGood, markKey, judged, asked, maySend}
+use Rattle.ledger.specs.Ledger.{noticeKeys, residentKeys, noticeGood, argumentsGood, markKey, judged, asked, maySend, clearing, clearNotice}
 
 module _ (p : List ℕ) (done : Call) where
   pub judged-outside : {b : Bool} → b ≡ false → judged b p done ≡ refuses OutOfRange p
@@ -55,7 +56,7 @@ judged-ends p words done true = go (audit-says p words) refl
     go (rules-broken l n) e = rw (refused (λ z. omega (arith, ap codeOf e)), e) (no-pool refl l n)
     go (audit-passed l g) e = rw (judged-on p done refl (ap codeOf e)) (goes-on refl l g)
 
--- May send, test by test, with the first key as the code computes it.
+-- May send, test by test.
 module _ (p : List ℕ) (n r l : ℕ) where
   pub sending-outside : argumentsGood n r l ≡ false → maySend p n r l ≡ refuses OutOfRange p
   unfolding maySend
@@ -70,3 +71,19 @@ module _ (p : List ℕ) (n r l : ℕ) where
   sending-asks e z =
       let first : n * noticeKeys + r * residentKeys + 0 ≡ n * noticeKeys + r * residentKeys = omega arith in
       judged-on p _ e z ∙ ap (λ (k : ℕ). asked p k l) first
+
+-- Clearing, in the same way.
+module _ (p : List ℕ) (n : ℕ) where
+  pub clearing-outside : noticeGood n ≡ false → clearNotice p n ≡ refuses OutOfRange p
+  unfolding clearNotice
+  clearing-outside e = judged-outside p _ e
+
+  pub clearing-unaudited : noticeGood n ≡ true → codeOf (auditAnswer p) ≢ 0 → clearNotice p n ≡ gives (auditAnswer p) p
+  unfolding clearNotice
+  clearing-unaudited e d = judged-unaudited p _ e d
+
+  pub clearing-clears : noticeGood n ≡ true → codeOf (auditAnswer p) ≡ 0 → clearNotice p n ≡ clearing p (n * noticeKeys)
+  unfolding clearNotice markKey
+  clearing-clears e z =
+      let first : n * noticeKeys + 0 * residentKeys + 0 ≡ n * noticeKeys = omega arith in
+      judged-on p _ e z ∙ ap (clearing p) first

@@ -79,13 +79,14 @@ attemptOf x = x % residentKeys
 unfoldable pub clearedAt : ℕ → List ℕ → Cleared
 clearedAt x p = elim (not (eqb (attemptOf x) 0) && eqb (member x p) 1) [ true ↦ cleared 1 (deleteWords p x) | false ↦ cleared 0 p ]
 
+-- and then others: how many went in all, and what is left in the end
+abbrev pub andThen : Cleared → Cleared → Cleared
+andThen c d = cleared (c .count + d .count) (d .words)
+
 -- the keys x, x + 1 and so on, n of them
 unfoldable pub clearedFrom : (n x : ℕ) → List ℕ → Cleared
 clearedFrom zero x p = cleared 0 p
-clearedFrom (suc n) x p =
-    let c = clearedAt x p in
-    let d = clearedFrom n (suc x) (c .words) in
-    cleared (c .count + d .count) (d .words)
+clearedFrom (suc n) x p = let c = clearedAt x p in andThen c (clearedFrom n (suc x) (c .words))
 
 unfoldable pub clearing : List ℕ → ℕ → Call
 clearing p first = let c = clearedFrom noticeKeys first p in gives (Done (c .count)) (c .words)

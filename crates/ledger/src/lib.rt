@@ -1,7 +1,9 @@
 // 02 (iv): no more than the allowed number of texts. A product above the set: it calls the set's operations and rests on what they promise
 // (crate set's page Promises), and on nothing behind them.
 use set::audit_answer;
+use set::delete;
 use set::insert;
+use set::next_key;
 use set::search;
 use tree::Answer;
 use tree::Refusal;
@@ -97,4 +99,61 @@ pub fn may_send(pool: &mut [u32], notice: u32, resident: u32, limit: u32) -> Ans
         return audited;
     }
     ask(pool, notice * NOTICE_KEYS + resident * RESIDENT_KEYS, limit)
+}
+
+// A key of the notice: if it is a mark, it is deleted. How many went: 1, or 0.
+fn clear_at(pool: &mut [u32], key: u32) -> u32
+    requires passes { ⌜ Passing (now pool) ⌝ }
+    ensures count { λ r. ⌜ r ≡ (clearedAt key (now (pool .entry))) .count ⌝ }
+    ensures pool { λ _. ⌜ now (pool .exit) ≡ (clearedAt key (now (pool .entry))) .words ⌝ }
+{
+    if key % RESIDENT_KEYS == 0 {
+        return 0;
+    }
+    let gone = delete(pool, key);
+    if gone.code() != Answer::DONE {
+        return 0;
+    }
+    1
+}
+
+// The marks among a notice's keys, from the first one on, smallest first: from one key that is in the set to the next. The last notice's
+// keys end with the last 32-bit number, so the key after them needs 64 bits.
+fn clear_from(pool: &mut [u32], first: u32) -> u32
+    requires passes { ⌜ Passing (now pool) ⌝ }
+    requires fits { ⌜ first + noticeKeys ≤ keyEnd ⌝ }
+    ensures count { λ r. ⌜ r ≡ (clearedFrom noticeKeys first (now (pool .entry))) .count ⌝ }
+    ensures pool { λ _. ⌜ now (pool .exit) ≡ (clearedFrom noticeKeys first (now (pool .entry))) .words ⌝ }
+{
+    let end = first as u64 + NOTICE_KEYS as u64;
+    let mut next = first as u64;
+    let mut count: u32 = 0;
+    while next < end {
+        let found = next_key(pool, next as u32);
+        if found.code() != Answer::DONE {
+            return count;
+        }
+        let key = found.number();
+        if end <= key as u64 {
+            return count;
+        }
+        count += clear_at(pool, key);
+        next = key as u64 + 1;
+    }
+    count
+}
+
+// Clears a notice: code 0 and how many marks went. Refusals in the order 15, 1, 2.
+pub fn clear_notice(pool: &mut [u32], notice: u32) -> Answer
+    ensures answer { λ r. ⌜ r ≡ (clearNotice (now (pool .entry)) notice) .answer ⌝ }
+    ensures pool { λ _. ⌜ now (pool .exit) ≡ (clearNotice (now (pool .entry)) notice) .left ⌝ }
+{
+    if !notice_good(notice) {
+        return Answer::Refused(Refusal::OutOfRange);
+    }
+    let audited = audit_answer(pool);
+    if audited.code() != Answer::DONE {
+        return audited;
+    }
+    Answer::Done(clear_from(pool, notice * NOTICE_KEYS))
 }

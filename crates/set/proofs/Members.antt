@@ -2,6 +2,7 @@
 -- (`one-more`) or by none (`same-set`). Behind the page Promises.antt; not for crates above.
 -- Why room follows keys: a tree of k keys has 2k - 1 nodes, and nodes and free slots together are C. Assumes nothing.
 use mathlib.Core.Path.{_≡_, refl, ap, sym, _∙_}
+use mathlib.Core.Logic.{_≢_}
 use mathlib.Core.List.{List}
 use lib.Dec.{eqb}
 use lib.ListN.{length}
@@ -15,6 +16,7 @@ use Rattle.format.specs.Shows.{PoolShows}
 use Rattle.format.specs.Audit.{stateOf}
 use Rattle.format.proofs.Rules.{show-rules}
 use Rattle.tree.proofs.SoundStates.{sound-total}
+use Rattle.tree.proofs.Tests.{one-same, one-other}
 use Rattle.set.specs.Set.{member, held, room, needed, OneMore, SameSet}
 
 -- 2k - 1 nodes: those of one key more are so many more
@@ -67,3 +69,11 @@ same-set {p} {q} {S} {T} sound shows sound′ shows′ keys-same free-same = rec
   keys-held = held-shown sound′ shows′ ∙ (ap length keys-same ∙ sym (held-shown sound shows));
   room-left = room-shown sound′ shows′ ∙ (ap length free-same ∙ sym (room-shown sound shows));
 }
+
+-- One key more: that key is there once more, and every other as before.
+module _ {x : ℕ} {p q : List ℕ} (m : OneMore x p q) where
+  pub more-here : member x q ≡ member x p + 1
+  more-here = omega (arith, m .members x, one-same x x refl)
+
+  pub more-elsewhere : (y : ℕ) → y ≢ x → member y q ≡ member y p
+  more-elsewhere y n = omega (arith, m .members y, one-other y x n)

