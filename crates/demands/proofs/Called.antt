@@ -15,6 +15,7 @@ use Rattle.format.proofs.Shown.{shows-words}
 use Rattle.set.specs.Set.{Passing}
 use Rattle.set.proofs.Passing.{passing, passing-state, passing-words}
 use Rattle.ledger.proofs.Sending.{send-passing}
+use Rattle.ledger.proofs.Clearing.{clear-passing}
 use Rattle.encoding.specs.Numbers.{Bytes}
 use Rattle.encoding.proofs.Endings.{Ending, length-refused, bad-command, few-answers, rules-refused, ran, ending}
 use Rattle.encoding.proofs.Performs.{AllSmall, run-sound}
@@ -22,7 +23,6 @@ use Rattle.demands.specs.Calls.{Entry, logOf, Calls, no-call, then-call,
 use Rattle.commands.proofs.Running.{read-small}
 use Rattle.demands.proofs.Runs.{entriesOf, log-none, log-ran}
 use Rattle.demands.proofs.Restarting.{restart-passing}
-use Rattle.demands.proofs.Ledger.{clear-passing}
 
 -- the commands cs ran
 pub record Ran (p bytes out : List ℕ) (cs : List Command) : Type 0 where

@@ -39,6 +39,7 @@ use Rattle.ledger.specs.Ledger.{markKey, maySend, clearNotice}
 use Rattle.ledger.specs.Sends.{Sent, Cleaned}
 use Rattle.ledger.specs.Sequences.{sendCall, clearCall}
 use Rattle.ledger.proofs.Sending.{send-says, send-refused}
+use Rattle.ledger.proofs.Clearing.{clear-says, clear-refused}
 use Rattle.set.proofs.Members.{member-shown}
 use Rattle.set.proofs.Passing.{passing-state}
 use Rattle.set.proofs.Promises.{passing-words, nodes-exact, empty-says, prepare-passing, prepare-says, search-codes}
@@ -47,7 +48,6 @@ use Rattle.demands.proofs.Told.{tells-kept, tells-put, tells-taken, oth
 use Rattle.demands.proofs.Runs.{entry, entriesOf}
 use Rattle.demands.proofs.Called.{Result, call-kept, call-did, call-result, call-ran, calls-passing}
 use Rattle.demands.proofs.Ends.{command-words}
-use Rattle.demands.proofs.Ledger.{clear-says, clear-refused}
 use Rattle.demands.proofs.Restarting.{restart-keys}
 
 -- One command: what is in the set after it is what its entry tells.

@@ -1,4 +1,3 @@
-pub mod Ledger
 pub mod Runs
 pub mod Restarting
 pub mod Called

@@ -38,7 +38,7 @@ use Rattle.set.proofs.Promises.{Words32, passing-words}
 use Rattle.ledger.specs.Ledger.{maySend, clearNotice}
 use Rattle.ledger.specs.Sequences.{sendCall, clearCall}
 use Rattle.ledger.proofs.Sending.{send-refused}
-use Rattle.demands.proofs.Ledger.{clear-refused, clear-none}
+use Rattle.ledger.proofs.Clearing.{clear-refused, clear-none}
 use Rattle.demands.specs.Calls.{Entry, of-command, of-ledger, logOf, Calls, no-call, then-call, then-restart, then-send, then-clear, isOf, stepsOf, stepsIn, NoUpdate, NoUpdates}
 use Rattle.demands.proofs.Runs.{entry, entriesOf}
 use Rattle.demands.proofs.Called.{Result, call-kept, call-did, call-result, calls-passing}

@@ -26,6 +26,7 @@ use Rattle.set.proofs.Promises.{member-once}
 use Rattle.ledger.specs.Ledger.{mostResident, mostAttempts, markKey}
 use Rattle.ledger.specs.Sequences.{LedgerCall, send-call, clear-call, textsAfter, textsFrom, texts, Within, AllWithin, KeepsMarks, Sending, no-send, then-other}
 use Rattle.ledger.specs.Sequences as sequences
+use Rattle.ledger.proofs.Limit.{texts-at-most}
 use Rattle.demands.specs.Calls.{Entry, of-command, of-ledger, logOf, Calls, no-call, then-call, then-restart, then-send, then-clear, NoneTakes}
 use Rattle.demands.specs.Texts.{ledgerCalls, NoMarkDeleted, OneLimit, yesAnswers}
 use Rattle.demands.proofs.Runs.{entriesOf}
@@ -33,7 +34,6 @@ use Rattle.demands.proofs.Restarting.{restart-passing, restart-keys}
 use Rattle.demands.proofs.Called.{Result, call-kept, call-did, call-result, call-passing, calls-passing}
 use Rattle.demands.proofs.Told.{none-stays}
 use Rattle.demands.proofs.History.{history-from, prepared-empty}
-use Rattle.demands.proofs.Ledger.{texts-at-most}
 
 -- The calls of the send limit in a log that goes on: by commands alone, or by one of them.
 ledger-none : (l m : List Entry) → ledgerCalls m ≡ [] → ledgerCalls (l ++ m) ≡ ledgerCalls l
