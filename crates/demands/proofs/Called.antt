@@ -1,6 +1,6 @@
 -- What a batch call leaves of a pool that passes the audit: all as it was and nothing in the log, or what its commands leave of the
--- State, with their entries in the log (`call-result`). Either way the pool passes the audit, and so it does after any number of calls
--- (`calls-passing`). Behind Ends.antt, History.antt and StepsInBatches.antt. Assumes nothing.
+-- State, with their entries in the log (`call-result`). Either way the pool passes the audit, and so it does after any number of calls of
+-- every sort (`calls-passing`). Behind Ends.antt, History.antt and StepsInBatches.antt. Assumes nothing.
 use mathlib.Core.Path.{_≡_, refl, ap, sym, _∙_}
 use mathlib.Core.Logic.{_≢_}
 use mathlib.Core.List.{List, []}

@@ -1,11 +1,12 @@
 -- Demand 2's last sentence. From any empty pool that passes the audit, a prepared one (`history-prepared`) or another, and after any
--- number of batch calls, with any bytes and any answer words, refused calls, steps and settles among them, the set has exactly the keys
--- that were inserted with code 0 and not since deleted with code 0 (`history`, `history-keys`); search finds exactly those
--- (`history-search`), and so does a search command anywhere in a further call (`search-tells`). From any pool that passes the audit it
--- has these, and of the keys that were there those not since deleted with code 0 (`history-from`, `history-from-keys`, and so on).
+-- number of batch calls, with any bytes and any answer words, and calls of the send limit, with any arguments, refused calls, steps and
+-- settles among them, the set has exactly the keys that were inserted with code 0 and not since deleted with code 0 (`history`,
+-- `history-keys`): by commands, by a yes, which inserts its mark, and by a clearing, which deletes its notice's marks. Search finds exactly
+-- those (`history-search`), and so does a search command anywhere in a further call (`search-tells`). From any pool that passes the audit
+-- it has these, and of the keys that were there those not since deleted with code 0 (`history-from`, `history-from-keys`, and so on).
 -- Restarts may come between the calls: they move no key.
--- Why: an insert with code 0 adds its key and no other, a delete with code 0 takes its key and no other, and nothing else moves a key
--- (crate tree); so after each command the set is what the log tells. Assumes nothing.
+-- Why: an insert with code 0 adds its key and no other, a delete with code 0 takes its key and no other (crate tree), a yes and a clearing
+-- do so with marks (crate ledger), and nothing else moves a key; so after each entry the set is what the log tells. Assumes nothing.
 use mathlib.Core.Path.{_≡_, refl, ap, sym, _∙_}
 use mathlib.Core.Logic.{_↔_, _≢_, inl, inr}
 use mathlib.Core.Bool.{Bool, true, false, false≢true, and-false}
@@ -42,7 +43,7 @@ use Rattle.ledger.proofs.Sending.{send-says, send-refused}
 use Rattle.ledger.proofs.Clearing.{clear-says, clear-refused}
 use Rattle.set.proofs.Members.{member-shown}
 use Rattle.set.proofs.Passing.{passing-state}
-use Rattle.set.proofs.Promises.{passing-words, nodes-exact, empty-says, prepare-passing, prepare-says, search-codes}
+use Rattle.set.proofs.Promises.{passing-words, more-here, more-elsewhere, nodes-exact, empty-says, prepare-passing, prepare-says, search-codes}
 use Rattle.demands.specs.Calls.{Entry, of-ledger, entries, logOf, Calls, no-call, then-call, then-restart, then-send, then-clear, isMark, puts, takes, tells, toldFrom, told, InsertedSince, KeptOrInserted, SearchTells}
 use Rattle.demands.proofs.Told.{tells-kept, tells-put, tells-taken, other-operation, other-key, other-code, tells-insert, tells-delete, is-mark, told-append, told-from-exactly, told-exactly}
 use Rattle.demands.proofs.Runs.{entry, entriesOf}
@@ -126,10 +127,11 @@ module _ {p : List ℕ} (g : Passing p) (n r l x : ℕ) where
       → member x ((maySend p n r l) .left) ≡ tells x sent (member x p)
   unfolding puts
   yes-told s z = same-or-not key x
-      (λ e.
-      let none : member x p ≡ 0 = rw e at (s .attempt-is .unmarked) in
-      omega (arith, s .one-more .members x, one-same x key (sym e), tells-put x sent (member x p) (rw (eq-eqb _ _ e, eq-eqb _ _ z))))
-      (λ d. omega (arith, s .one-more .members x, one-other x key (λ e. d (sym e)), send-kept (rw (ne-eqb _ _ d))))
+      (λ e. rw e at here ∙ sym (tells-put x sent (member x p) (rw (eq-eqb _ _ e, eq-eqb _ _ z))))
+      (λ d. more-elsewhere (s .one-more) x (λ e. d (sym e)) ∙ sym (send-kept (rw (ne-eqb _ _ d))))
+    where
+      here : member key ((maySend p n r l) .left) ≡ 1
+      here = omega (arith, more-here (s .one-more), s .attempt-is .unmarked)
 
   send-told : member x ((maySend p n r l) .left) ≡ tells x sent (member x p)
   unfolding puts
@@ -191,7 +193,7 @@ module _ {p q : List ℕ} {log : List Entry} (g : Passing p) (calls : Calls p lo
   pub history-from-search : (x : ℕ) → SearchTells (toldFrom x (member x p) log) (codeOf (searchAnswer q x))
   history-from-search x = rw (← history-from x) (let k = search-codes history-passing x in record { done-when = k .done-when; absent-when = k .absent-when })
 
-  -- and by what it answered on the words before: it finds x exactly when it did so then and no accepted delete came, or x was inserted since.
+  -- and by what it answered on the words before: it finds x exactly when it did so then and nothing took x, or x was inserted since.
   pub history-of-searches : (x : ℕ) → (codeOf (searchAnswer q x) ≡ 0) ↔ KeptOrInserted x (codeOf (searchAnswer p x) ≡ 0) log
   history-of-searches x =
       let now = search-codes history-passing x .done-when in

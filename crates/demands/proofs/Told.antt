@@ -1,6 +1,6 @@
 -- What a log tells of a key, entry by entry; and that `told` is the sentence "inserted with code 0 and not since deleted with code 0"
 -- (`told-exactly`), and `toldFrom`, for a pool that may have had the key before, that sentence or "it was there and has not been deleted
--- with code 0" (`told-from-exactly`). Assumes nothing.
+-- with code 0" (`told-from-exactly`), where a clearing deletes the marks that crate ledger says (`is-mark`). Assumes nothing.
 use mathlib.Core.Path.{_≡_, refl, ap, sym, _∙_}
 use mathlib.Core.Logic.{_≢_, _↔_, inl, inr}
 use mathlib.Core.Bool.{Bool, true, false, and-false}

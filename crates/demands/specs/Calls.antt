@@ -116,8 +116,8 @@ pub record SearchTells (is-told given : ℕ) : Type 0 where
   pub done-when : (given ≡ 0) ↔ (is-told ≡ 1)
   pub absent-when : (given ≡ code KeyAbsent) ↔ (is-told ≡ 0)
 
--- Demand 3 (RULES 13.3): the accepted steps of an entry, a step with code 0 or the steps that a settle reports (RULES 17.6: neither call of the
--- send limit settles); and of a whole log.
+-- Demand 3 (RULES 13.3): the accepted steps of an entry, a step with code 0 or the steps that a settle reports (the send limit takes none); and
+-- of a whole log.
 unfoldable pub stepsOf : Entry → ℕ
 stepsOf (of-command c code number) = elim (isOf Step c && eqb code 0) [ true ↦ 1 | false ↦ elim (isOf Settle c) [ true ↦ number | false ↦ 0 ] ]
 stepsOf (of-ledger call) = 0
