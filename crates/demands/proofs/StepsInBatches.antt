@@ -13,11 +13,10 @@ use native.Mathlib.Omega.{arith}
 use Prim.Native.Nat.{ℕ, _+_, _≤_}
 use Rattle.tree.specs.declared.Answer.{Answer}
 use Rattle.tree.specs.declared.Answer.the-variants.{Done, Refused}
-use Rattle.tree.specs.declared.Refusal.the-variants.{KeyAbsent}
 use Rattle.tree.specs.Codes.{kindNumber, codeOf, numberOf}
 use Rattle.tree.proofs.KindNumbers.{refusal-some}
 use Rattle.tree.proofs.Tests.{same-or-not}
-use Rattle.tree.specs.State.{State, Sound, Outcome, refuses, search, insert, delete, step}
+use Rattle.tree.specs.State.{State, Sound, Outcome, search, insert, delete, step}
 use Rattle.tree.specs.Settle.{settle}
 use Rattle.tree.proofs.Updated.{search-kept, insert-kept, delete-kept}
 use Rattle.tree.proofs.StepState.{StepCase, refused as step-refused, taken as step-taken, stepping}
@@ -39,7 +38,7 @@ use Rattle.ledger.specs.Ledger.{maySend, clearNotice}
 use Rattle.ledger.specs.Sequences.{sendCall, clearCall}
 use Rattle.ledger.proofs.Sending.{send-refused}
 use Rattle.ledger.proofs.Clearing.{clear-refused, clear-none}
-use Rattle.demands.specs.Calls.{Entry, of-command, of-ledger, logOf, Calls, no-call, then-call, then-restart, then-send, then-clear, isOf, stepsOf, stepsIn, NoUpdate, NoUpdates}
+use Rattle.demands.specs.Calls.{Entry, of-ledger, logOf, Calls, no-call, then-call, then-restart, then-send, then-clear, isOf, stepsOf, stepsIn, NoUpdate, NoUpdates}
 use Rattle.demands.proofs.Runs.{entry, entriesOf}
 use Rattle.demands.proofs.Called.{Result, call-kept, call-did, call-result, calls-passing}
 use Rattle.demands.proofs.Restarting.{restart-bound}

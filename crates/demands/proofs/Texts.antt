@@ -5,8 +5,7 @@
 -- set (`texts-from-empty`).
 -- Why: such calls are a sequence as crate ledger has them (`calls-sending`): what stands between leaves a pool that passes, and takes none of the
 -- marks, since what the log tells of a key stays as long as nothing takes it. Assumes nothing.
-use mathlib.Core.Path.{_≡_, refl, ap, sym, _∙_}
-use mathlib.Core.Logic.{_≢_}
+use mathlib.Core.Path.{_≡_, refl, ap, _∙_}
 use mathlib.Core.Bool.{Bool, true, false, _&&_, and-false}
 use mathlib.Core.List.{List, [], _∷_, _++_}
 use lib.Dec.{eqb}
@@ -24,8 +23,8 @@ use Rattle.pool.specs.Results.{prepareCode, preparedWords}
 use Rattle.set.specs.Set.{Passing, member}
 use Rattle.set.proofs.Promises.{member-once}
 use Rattle.ledger.specs.Ledger.{mostResident, mostAttempts, markKey}
-use Rattle.ledger.specs.Sequences.{LedgerCall, send-call, clear-call, textsAfter, textsFrom, texts, Within, AllWithin, KeepsMarks, Sending, no-send, then-other}
-use Rattle.ledger.specs.Sequences as sequences
+use Rattle.ledger.specs.Sequences.{LedgerCall, send-call, clear-call, sendCall, clearCall, textsAfter, textsFrom, texts, Within, AllWithin}
+use Rattle.ledger.specs.Sequences.{KeepsMarks, Sending, no-send, then-send as ledger-send, then-clear as ledger-clear, then-other}
 use Rattle.ledger.proofs.Limit.{texts-at-most}
 use Rattle.demands.specs.Calls.{Entry, of-command, of-ledger, logOf, Calls, no-call, then-call, then-restart, then-send, then-clear, NoneTakes}
 use Rattle.demands.specs.Texts.{ledgerCalls, NoMarkDeleted, OneLimit, yesAnswers}
@@ -55,12 +54,12 @@ module _ (n r : ℕ) where
   no-mark-append (of-command c code number ∷ l) m h = let s = no-mark-append l m (h .1) in ((h .0, s .0), s .1)
   no-mark-append (of-ledger call ∷ l) m h = no-mark-append l m h
 
-  -- The log of a batch call: commands alone, and none of them takes a mark.
-  pub record Commands (log : List Entry) : Type 0 where
+  -- The log of a batch call: commands alone, so that nothing in it takes a mark if no command does.
+  pub record CommandsOnly (log : List Entry) : Type 0 where
     pub none : ledgerCalls log ≡ []
     pub marks-stay : NoMarkDeleted n r log → (a : ℕ) → 1 ≤ a → a ≤ mostAttempts → NoneTakes (markKey n r a) log
 
-  run-commands : (cs : List Command) (S : State) → Commands (entriesOf cs S)
+  run-commands : (cs : List Command) (S : State) → CommandsOnly (entriesOf cs S)
   unfolding entriesOf ledgerCalls NoMarkDeleted NoneTakes
   run-commands [] S = record { none = refl; marks-stay = λ h a i j. tt }
   run-commands (c ∷ cs) S =
@@ -68,11 +67,11 @@ module _ (n r : ℕ) where
       record { none = k .none; marks-stay = λ h a i j. (h .0 a i j, k .marks-stay (h .1) a i j) }
 
   module _ {p : List ℕ} (g : Passing p) (bytes out : List ℕ) (b : Bytes bytes) where
-    call-commands : Commands (logOf p bytes out)
+    call-commands : CommandsOnly (logOf p bytes out)
     unfolding ledgerCalls NoneTakes
     call-commands = go (call-result g bytes out b)
       where
-        go : Result p bytes out → Commands (logOf p bytes out)
+        go : Result p bytes out → CommandsOnly (logOf p bytes out)
         go (call-kept d q l) = rw l (record { none = refl; marks-stay = λ h a i j. tt })
         go (call-did {cs} z f R) = rw (R .log-is) (run-commands cs (stateOf p))
 
@@ -97,9 +96,9 @@ module _ (n r : ℕ) where
       let k = calls-passing g calls in
       then-other (calls-sending g calls h) (restart-passing k R) (λ a i j. omega (arith, restart-keys k R (markKey n r a)))
   calls-sending g (then-send {log} {q} calls m s l) h =
-      rw (ledger-one log (sequences.sendCall q m s l)) (sequences.then-send (calls-sending g calls (no-mark-append log (of-ledger (sequences.sendCall q m s l) ∷ []) h .0)) m s l)
+      rw (ledger-one log (sendCall q m s l)) (ledger-send (calls-sending g calls (no-mark-append log (of-ledger (sendCall q m s l) ∷ []) h .0)) m s l)
   calls-sending g (then-clear {log} {q} calls m) h =
-      rw (ledger-one log (sequences.clearCall q m)) (sequences.then-clear (calls-sending g calls (no-mark-append log (of-ledger (sequences.clearCall q m) ∷ []) h .0)) m)
+      rw (ledger-one log (clearCall q m)) (ledger-clear (calls-sending g calls (no-mark-append log (of-ledger (clearCall q m) ∷ []) h .0)) m)
 
   -- With no clearing of the notice all yes answers count ..
   texts-all : (l : ℕ) (calls : List LedgerCall) (before : ℕ) → OneLimit n l calls → textsFrom n r before calls ≡ before + yesAnswers n r calls
@@ -123,7 +122,8 @@ module _ (n r : ℕ) where
   one-within l (clear-call m code count ∷ calls) h = (tt, one-within l calls (h .1))
 
 -- The send limit, from any pool that passes the audit.
-module _ (n r : ℕ) (resident-in : r ≤ mostResident) {p q : List ℕ} {log : List Entry} (g : Passing p) (calls : Calls p log q) (stay : NoMarkDeleted n r log) where
+module _ (n r : ℕ) (resident-in : r ≤ mostResident) {p q : List ℕ} {log : List Entry} (g : Passing p) (calls : Calls p log q)
+    (stay : NoMarkDeleted n r log) where
   -- since the notice was last cleared
   pub texts-in-calls : (m : ℕ) → m ≤ mostAttempts → AllWithin n r m (ledgerCalls log) → texts n r (ledgerCalls log) ≤ m
   texts-in-calls m few within = texts-at-most resident-in few g (calls-sending n r g calls stay) within
