@@ -22,8 +22,8 @@ extern "C" {
 /* The number of this interface; docs/INTERFACE.md says what each has. The function returns it. With GCC and Clang every file that
  * includes this header refers to the function, so that a program does not link with an archive of another interface; with
  * another compiler, call it once. */
-#define CHROMATIC_INTERFACE 4
-uint32_t chromatic_interface_4(void);
+#define CHROMATIC_INTERFACE 5
+uint32_t chromatic_interface_5(void);
 #ifdef __GNUC__
 __attribute__((used))
 #ifdef __has_attribute
@@ -31,7 +31,7 @@ __attribute__((used))
 __attribute__((retain)) /* from --gc-sections */
 #endif
 #endif
-static uint32_t (*const chromatic_interface_needed)(void) = chromatic_interface_4;
+static uint32_t (*const chromatic_interface_needed)(void) = chromatic_interface_5;
 #endif
 
 #ifdef __GNUC__
@@ -46,6 +46,16 @@ static uint32_t (*const chromatic_interface_needed)(void) = chromatic_interface_
 #define CHROMATIC_ANSWER_WORDS 2 /* for each command: code, number */
 #define CHROMATIC_SAVED_BYTES(nodes) (4 + 7 * CHROMATIC_AS(size_t, nodes)) /* enough for that many nodes; for C, whatever is in the pool */
 
+/* What chromatic_may_send and chromatic_clear_notice take. */
+#define CHROMATIC_LOWEST_NOTICE 1
+#define CHROMATIC_HIGHEST_NOTICE 65535
+#define CHROMATIC_LOWEST_RESIDENT 0
+#define CHROMATIC_HIGHEST_RESIDENT 8191
+#define CHROMATIC_LOWEST_LIMIT 1 /* texts about one notice that a resident may get */
+#define CHROMATIC_HIGHEST_LIMIT 7
+/* The key that is the mark of an attempt, 1 to 7, to text a resident about a notice: 16, 13 and 3 bits. */
+#define CHROMATIC_TEXT_KEY(notice, resident, attempt) ((notice) * UINT32_C(65536) + (resident) * UINT32_C(8) + (attempt))
+
 enum chromatic_code {
     CHROMATIC_GOOD = 0,
     /* The call is refused whole, and no word changes. */
@@ -56,7 +66,8 @@ enum chromatic_code {
     /* The command is refused, and no pool word changes. */
     CHROMATIC_KEY_PRESENT = 5,
     CHROMATIC_KEY_ABSENT = 6,
-    CHROMATIC_NO_ROOM = 7, /* the key is not in the set and cannot be marked: send nothing, asking again puts it there no sooner */
+    CHROMATIC_NO_ROOM = 7, /* the key is not in the set and cannot be marked: send nothing, asking again puts it there no sooner; of
+                            * chromatic_may_send, where the call is refused whole, the same of the attempt */
     CHROMATIC_NO_INNER_NODE = 8,
     CHROMATIC_NO_KIND = 9,
     CHROMATIC_CONDITION_FALSE = 10,
@@ -64,9 +75,11 @@ enum chromatic_code {
     /* Not a refusal: the steps stand. */
     CHROMATIC_BUDGET_SPENT = 12,
     /* The call is refused whole, and no word or byte changes. */
-    CHROMATIC_BAD_SAVED = 13, /* no save writes these bytes: who was told is not known, so send nothing and do not prepare an empty pool;
-                               * number: the place where the first bad number goes wrong, or else the count of the bytes */
-    CHROMATIC_NO_FIT = 14     /* too little room for the saved bytes; or a pool of another C than the one that was saved */
+    CHROMATIC_BAD_SAVED = 13,    /* no save writes these bytes: who was told is not known, so send nothing and do not prepare an empty pool;
+                                  * number: the place where the first bad number goes wrong, or else the count of the bytes */
+    CHROMATIC_NO_FIT = 14,       /* too little room for the saved bytes; or a pool of another C than the one that was saved */
+    CHROMATIC_OUT_OF_RANGE = 15, /* a notice, resident or limit outside its range: send nothing */
+    CHROMATIC_ALL_USED = 16      /* attempts 1 to the limit are all marked: send nothing, asking again changes nothing */
 };
 
 enum chromatic_operation {
@@ -113,6 +126,15 @@ CHROMATIC_MUST_USE uint64_t chromatic_save(const uint32_t *pool, size_t pool_len
  * count of the bytes; a place past 32 bits is given as 4,294,967,295. For the other codes it is 0. The marks are those of when it was
  * saved: never load older bytes. */
 CHROMATIC_MUST_USE uint64_t chromatic_load(uint32_t *pool, size_t pool_len, const uint8_t *saved, size_t saved_len);
+
+/* May one more text about the notice go to the resident? The lowest attempt from 1 to limit that is not marked, and it is marked when
+ * this returns: send one text, and after a failed one ask again. Or code 15, 1, 2, 16 or 7 (tried in that order) times 2 to the power
+ * 32, no word changes, and NO TEXT MAY GO: whatever is not CHROMATIC_GOOD is no leave to send. Save and store the set before the text. */
+CHROMATIC_MUST_USE uint64_t chromatic_may_send(uint32_t *pool, size_t pool_len, uint32_t notice, uint32_t resident, uint32_t limit);
+
+/* Deletes the notice's marks, attempts 1 to 7 of every resident, the smallest key first: how many went; or code 15, 1 or 2 (tried in
+ * that order) times 2 to the power 32, and no word changes. Its count of texts begins afresh: only for a notice that is over. */
+CHROMATIC_MUST_USE uint64_t chromatic_clear_notice(uint32_t *pool, size_t pool_len, uint32_t notice);
 
 #define CHROMATIC_CODE(answer) CHROMATIC_AS(uint32_t, (answer) >> 32)
 #define CHROMATIC_NUMBER(answer) CHROMATIC_AS(uint32_t, (answer) & UINT32_MAX)

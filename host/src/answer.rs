@@ -2,6 +2,7 @@
 
 use crate::batch::{Command, Kind};
 use crate::layout;
+use crate::ledger::Text;
 use core::fmt;
 
 /// Why a call was refused whole. Pool, answers and output are as they were. Its text says what to do.
@@ -40,6 +41,9 @@ pub enum Refused {
     /// Code 14: of a save, the output has too little room; of a load, the pool has another number of slots than the one that
     /// was saved.
     NoFit,
+    /// Code 15: the notice, the resident or the limit is outside its range ([`Text`](crate::Text) has them). Nothing was marked
+    /// or cleared, and no text may go.
+    OutOfRange,
 }
 
 impl Refused {
@@ -55,6 +59,8 @@ impl Refused {
     pub const BAD_SAVED: u32 = 13;
     /// The code of [`Refused::NoFit`].
     pub const NO_FIT: u32 = 14;
+    /// The code of [`Refused::OutOfRange`].
+    pub const OUT_OF_RANGE: u32 = 15;
 
     /// The code.
     pub fn code(self) -> u32 {
@@ -65,6 +71,7 @@ impl Refused {
             Refused::FewAnswers => Refused::FEW_ANSWERS,
             Refused::BadSaved { .. } => Refused::BAD_SAVED,
             Refused::NoFit => Refused::NO_FIT,
+            Refused::OutOfRange => Refused::OUT_OF_RANGE,
         }
     }
 
@@ -72,7 +79,7 @@ impl Refused {
     pub fn number(self) -> u32 {
         match self {
             Refused::BadCommand { wrong_at } | Refused::BadSaved { wrong_at } => wrong_at,
-            Refused::WrongLength | Refused::RulesBroken | Refused::FewAnswers | Refused::NoFit => 0,
+            Refused::WrongLength | Refused::RulesBroken | Refused::FewAnswers | Refused::NoFit | Refused::OutOfRange => 0,
         }
     }
 
@@ -86,6 +93,7 @@ impl Refused {
             Refused::FEW_ANSWERS => Err(Refused::FewAnswers),
             Refused::BAD_SAVED => Err(Refused::BadSaved { wrong_at: number }),
             Refused::NO_FIT => Err(Refused::NoFit),
+            Refused::OUT_OF_RANGE => Err(Refused::OutOfRange),
             _ => foreign(code),
         }
     }
@@ -115,6 +123,17 @@ impl fmt::Display for Refused {
             Refused::NoFit => f.write_str(
                 "it does not fit; to save, lend more room (Pool::saved_bytes_for gives enough); to load, lend words for as many slots as \
                  were saved",
+            ),
+            Refused::OutOfRange => write!(
+                f,
+                "the notice is not from {} to {}, the resident not from {} to {}, or the limit not from {} to {}; nothing was marked or \
+                 cleared: send no text by it, and put the number right",
+                Text::NOTICES.start(),
+                Text::NOTICES.end(),
+                Text::RESIDENTS.start(),
+                Text::RESIDENTS.end(),
+                Text::LIMITS.start(),
+                Text::LIMITS.end()
             ),
         }
     }
@@ -182,7 +201,7 @@ pub enum Inserted {
 impl Inserted {
     /// The code of [`Inserted::KeyPresent`].
     pub const KEY_PRESENT: u32 = 5;
-    /// The code of [`Inserted::NoRoom`].
+    /// The code of [`Inserted::NoRoom`], and of [`MaySend::NoRoom`](crate::MaySend::NoRoom).
     pub const NO_ROOM: u32 = 7;
 }
 
@@ -337,6 +356,7 @@ fn foreign(code: u32) -> ! {
 mod tests {
     extern crate std;
     use super::*;
+    use crate::ledger::MaySend;
     use std::boxed::Box;
     use std::panic::{catch_unwind, set_hook, take_hook};
     use std::vec::Vec;
@@ -350,7 +370,7 @@ mod tests {
         let said = take_hook();
         set_hook(Box::new(|_| {})); // they would say hundreds of lines
         let wrong = [
-            own(&[0, 1, 2, 3, 4, 13, 14], |code| {
+            own(&[0, 1, 2, 3, 4, 13, 14, 15], |code| {
                 let place = if matches!(code, 3 | 13) { 9 } else { 0 };
                 assert_eq!(Refused::check(code, 9).map_or_else(|refused| (refused.code(), refused.number()), |()| (0, 0)), (code, place));
             }),
@@ -359,8 +379,15 @@ mod tests {
             own(&[0, 6], |code| assert_eq!(Deleted::read(code, 9) == Deleted::KeyAbsent, code == 6)),
             own(&[0, 8, 10, 11], |code| assert_eq!(Stepped::read(code) == Stepped::Taken, code == 0)),
             own(&[0, 12], |code| assert_eq!(Settled::read(code, 9) == Settled::RedBlack { steps: 9 }, code == 0)),
+            own(&[0, 1, 2, 3, 4, 7, 13, 14, 15, 16], |code| {
+                let answer = MaySend::read(Text { notice: 1, resident: 0 }, code, 3);
+                assert_eq!(matches!(answer, Ok(MaySend::Yes(permit)) if permit.attempt() == 3), code == 0);
+            }),
         ];
         set_hook(said);
-        assert!(wrong.iter().all(Vec::is_empty), "codes of a call, search, insert, delete, step, settle that are read wrongly: {wrong:?}");
+        assert!(
+            wrong.iter().all(Vec::is_empty),
+            "codes of a call, search, insert, delete, step, settle, may_send that are read wrongly: {wrong:?}"
+        );
     }
 }

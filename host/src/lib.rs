@@ -48,7 +48,27 @@
 //! | an array of `Pool::words_for(0)` or of `words_for(1024)` words; of `saved_bytes_for(0)` or `saved_bytes_for(1024)` bytes | E0080 | `no_slots` |
 //! | code for 0.3.0, which takes code 3's number for the byte where the command begins: `Refused::BadCommand { byte, .. }` | E0026: the byte at which it goes wrong is `wrong_at` | `old_place` |
 //! | code for 0.4.0, which takes the report's third number for a count of overweighted edges: `report.overweighted` | E0609: it is the excess weight, [`Report::excess_weight`] | `old_overweighted` |
-//! | a `match` without a rest on [`Refused`], [`Command`] or any answer but the insert's; a [`Report`] made up: they can grow | E0004, E0639 | `rest_forgotten`, `report_made_up` |
+//! | a `match` without a rest on [`Refused`], [`Command`] or any answer but those of insert and [`Pool::may_send`]; a [`Report`] made up: they can grow | E0004, E0639 | `rest_forgotten`, `report_made_up` |
+//!
+//! # A send that takes a permit
+//!
+//! Where a resident may get more than one text about a notice, but no more than a limit, [`Pool::may_send`] decides, and marks
+//! the attempt in the same call. Its answer has three cases too, and one of them holds a [`Permit`]. **No resident gets a text
+//! again because the set is full**: then there is no permit. **Let the function that sends take the permit**, and these do not
+//! compile either:
+//!
+//! | Fault | Error | File |
+//! |---|---|---|
+//! | `if pool.may_send(text, 3)? != MaySend::AllUsed { .. }`, or `!= MaySend::NoRoom` | E0369: the answer is not compared | `may_send_compared` |
+//! | `send(text)`, `send(key)` or `send(mark)` where there is no permit | E0308: none of them is one | `text_without_permit` |
+//! | a `match` without [`MaySend::NoRoom`], or without [`MaySend::AllUsed`] | E0004 | `send_case_forgotten` |
+//! | `send(permit); send(permit)` | E0382: a permit is used up | `permit_sent_twice` |
+//! | `permit.clone()` | E0599 | `permit_cloned` |
+//! | `Permit { text, attempt }` | E0451 | `permit_made_up` |
+//! | `Permit::default()` | E0599 | `permit_by_default` |
+//! | `pool.withdraw(permit)` after a failed send | E0308: a permit is no mark; ask again, for the next attempt | `permit_withdrawn` |
+//! | `pool.may_send(resident, notice, 3)`, the two exchanged | E0061: a [`Text`] names them | `notice_for_resident` |
+//! | `pool.may_send(text, 3)?;`, `pool.clear_notice(notice);` | a warning, `unused_must_use` | `may_send_unread` |
 //!
 //! # What still compiles
 //!
@@ -75,6 +95,22 @@
 //! | leaving a loop over [`Answers`] by `break` or `?`: the texts of the rest are lost | read every answer; send each mark or withdraw it | `still_left_early` |
 //! | dropping a mark, or a list of answers by `let _ =`: texts are lost | send each mark or withdraw it | `still_mark_dropped` |
 //!
+//! And with permits:
+//!
+//! | Fault | What to do instead | File |
+//! |---|---|---|
+//! | a send that takes a [`Text`], on `!matches!(.., AllUsed)`: a full set sends at every poll | `fn send(permit: Permit)`, and no other way to the gateway | `still_text_on_not_all_used` |
+//! | a permit from another pool, made where the set has no room | one pool for each sender | `still_permit_of_scratch_pool` |
+//! | a send that borrows: `fn send(permit: &Permit)` | take it by value | `still_permit_borrowed` |
+//! | the text first, and then the save: a process that stops in between sends that attempt again | ask, save, store, and then the text | `still_permit_before_save` |
+//! | [`Pool::clear_notice`] of a notice that still stands, to make room: its count begins afresh | on [`MaySend::NoRoom`] no text; call the desk; clear what is over, or begin with more slots | `still_cleared_while_it_stands` |
+//! | clearing first, and then storing that the notice is over: a process that stops in between has the notice and no marks | store that it is over, and then clear and save | `still_cleared_before_it_is_over` |
+//! | two limits for one notice: the larger one counts | one limit for each notice, in one place | `still_other_limits` |
+//! | asking again for somebody whose text went: each poll sends one more, up to the limit | keep who was told; where one text is enough, a limit of 1 | `still_asked_after_the_text` |
+//! | [`Pool::delete`] of a permit's key after a failed send: that attempt goes again, and the first one may have gone | nothing; the next permit is the next attempt | `still_permit_s_mark_deleted` |
+//! | keys of another making in the same set: they count as attempts, and [`Pool::clear_notice`] takes them | a set for each | `still_other_keys_in_the_set` |
+//! | dropping a permit: its attempt is used and no text went | send each permit | `still_permit_dropped` |
+//!
 //! # At most once
 //!
 //! A mark is set before its text goes out, in the words alone: to have it after a restart, save and store it before the
@@ -82,6 +118,15 @@
 //! between the two, if the mark or a list of [`Answers`] is dropped, or if the gateway fails. Only the last can be mended
 //! by the host: [`Pool::withdraw`] takes the mark back, and a later insert makes another. If the gateway failed after the
 //! text went out, the key then gets it twice: withdraw only what surely did not go.
+//!
+//! # At most the limit
+//!
+//! With permits it is the same, up to the limit: an attempt is marked before its text goes out, and is not given back. Whether a
+//! text arrived the set does not know. A yes says that one more may go, so whoever was told is not asked for again; and a
+//! send that failed, or a process that stopped, costs an attempt and no more: the next yes is the next attempt.
+//!
+//! [`Pool::clear_notice`] forgets a notice's marks, to make room. Its count begins afresh, so it comes after the notice is over,
+//! and after that is stored. examples/dispatcher.rs is such a sender, tested with a kill and with a power cut at every step.
 //!
 //! # Over a restart
 //!
@@ -92,7 +137,8 @@
 //! a batch does for all its marks.
 //!
 //! Storing has its own order, or a power cut leaves half a file: write beside the old file, flush, rename over it, flush
-//! the folder. examples/restart.rs does this, and is tested with a kill and with a power cut at every step of it.
+//! the folder. examples/store does this, for examples/restart.rs and examples/dispatcher.rs, and both are tested with a kill
+//! and with a power cut at every step.
 //!
 //! A load that is refused ([`Refused::BadSaved`], [`Refused::NoFit`]) and a file that is not there say nothing about who
 //! was told. **Then nothing is sent.** An empty set in their place sends every text again, so a service never begins one by
@@ -104,7 +150,7 @@
 //! # Errors
 //!
 //! [`Refused`], [`Full`] and [`NoKind`] are `core::error::Error`s whose text says what to do; `?` takes them into a
-//! `Box<dyn Error>`. The three cases of an insert are no errors: they are answers.
+//! `Box<dyn Error>`. The three cases of an insert, and of a question for a text, are no errors: they are answers.
 //!
 //! The byte at which a batch or saved bytes go wrong is `wrong_at` in [`Refused::BadCommand`] and [`Refused::BadSaved`], counted
 //! from 0. host/README.md shows how to read it.
@@ -125,11 +171,13 @@ extern crate std;
 mod answer;
 mod batch;
 mod layout;
+mod ledger;
 mod pool;
 pub mod raw;
 
 pub use answer::{Answer, Deleted, Inserted, Mark, Refused, Searched, Settled, Stepped};
 pub use batch::{Batch, Command, Full, Kind, NoKind};
+pub use ledger::{MaySend, Permit, Text};
 pub use pool::{Answers, Pool, Report, Words};
 
 #[cfg(doctest)]

@@ -2,6 +2,7 @@
 
 use crate::answer::{Answer, Deleted, Inserted, Mark, Refused, Searched, Settled, Stepped};
 use crate::batch::{Batch, Command, Kind};
+use crate::ledger::{MaySend, Text};
 use crate::{layout, raw};
 use core::fmt;
 use core::iter::FusedIterator;
@@ -404,6 +405,60 @@ impl<W: Words> Pool<W> {
     pub fn settle(&mut self, budget: u32) -> Result<Settled, Refused> {
         let [code, number] = self.run_one(Command::Settle { budget })?;
         Ok(Settled::read(code, number))
+    }
+
+    /// Asks whether one more text may go, and marks it in the same call. [`MaySend::Yes`] has the [`Permit`](crate::Permit) of
+    /// the lowest attempt from 1 to `limit` that is not marked, and is given exactly when there is one and the set has room
+    /// for its mark. Marks above the limit do not count, and a gap below it is filled. Only a yes changes words. Nothing is
+    /// settled.
+    ///
+    /// From an empty set, over any calls with one limit and whatever searches, steps and settles between them, a resident gets
+    /// at most `limit` permits for a notice until it is [cleared](Pool::clear_notice); with several limits, at most as many as
+    /// the largest. **No resident gets a text again because the set is full**: then every answer that is not
+    /// [`MaySend::AllUsed`] is [`MaySend::NoRoom`].
+    ///
+    /// ```
+    /// use chromatic::{MaySend, Permit, Pool, Text};
+    ///
+    /// fn send(permit: Permit) {
+    ///     println!("notice {} to resident {}, text {}", permit.notice(), permit.resident(), permit.attempt());
+    /// }
+    ///
+    /// let mut words = [0; Pool::words_for(127)]; // 127 slots hold 64 marks
+    /// let mut pool = Pool::prepare(&mut words[..])?;
+    /// match pool.may_send(Text { notice: 4411, resident: 12 }, 3)? {
+    ///     MaySend::Yes(permit) => send(permit), // save and store the set before
+    ///     MaySend::AllUsed => println!("all three are used: no text"),
+    ///     MaySend::NoRoom => println!("cannot be marked: no text, call the desk"),
+    /// }
+    /// # Ok::<(), chromatic::Refused>(())
+    /// ```
+    ///
+    /// # Errors
+    /// [`Refused::OutOfRange`] for a notice, resident or limit that is not in its range ([`Text`] has them), or as
+    /// [`Pool::audit`]; then no word changes.
+    ///
+    /// Proved: `may-send-says`, `may-send-codes`, `full-sends-nothing`, `texts-at-most`.
+    pub fn may_send(&mut self, text: Text, limit: u32) -> Result<MaySend, Refused> {
+        let [code, number] = halves(raw::may_send(&mut self.words, text.notice, text.resident, limit));
+        MaySend::read(text, code, number)
+    }
+
+    /// Clears a notice that is over: deletes its marks, attempts 1 to 7 of every resident, the smallest key first, and gives
+    /// how many went; 0 if it had none. No other key goes, not even one of the notice's with attempt 0, which is no
+    /// text's. The slots are used again. Nothing is settled.
+    ///
+    /// **The notice's count begins afresh**: whoever had its texts can get as many again. So take it from what is sent first,
+    /// and store that before; a notice that still stands is never cleared to make room.
+    ///
+    /// # Errors
+    /// [`Refused::OutOfRange`] for a notice that is not in [`Text::NOTICES`], or as [`Pool::audit`]; then no word changes.
+    ///
+    /// Proved: `clear-says`.
+    pub fn clear_notice(&mut self, notice: u32) -> Result<u32, Refused> {
+        let [code, number] = halves(raw::clear_notice(&mut self.words, notice));
+        Refused::check(code, number)?;
+        Ok(number)
     }
 
     fn run_one(&mut self, command: Command) -> Result<[u32; ANSWER_WORDS], Refused> {

@@ -7,7 +7,7 @@
 
 mod c {
     extern "C" {
-        pub fn chromatic_interface_4() -> u32;
+        pub fn chromatic_interface_5() -> u32;
         pub fn chromatic_prepare(pool: *mut u32, pool_len: usize) -> u32;
         pub fn chromatic_audit(pool: *const u32, pool_len: usize) -> u32;
         pub fn chromatic_report(pool: *const u32, pool_len: usize, index: u32) -> u64;
@@ -21,15 +21,17 @@ mod c {
         ) -> u64;
         pub fn chromatic_save(pool: *const u32, pool_len: usize, out: *mut u8, out_len: usize) -> u64;
         pub fn chromatic_load(pool: *mut u32, pool_len: usize, saved: *const u8, saved_len: usize) -> u64;
+        pub fn chromatic_may_send(pool: *mut u32, pool_len: usize, notice: u32, resident: u32, limit: u32) -> u64;
+        pub fn chromatic_clear_notice(pool: *mut u32, pool_len: usize, notice: u32) -> u64;
     }
 }
 
-/// The number of the interface that this crate is made for, 4; docs/INTERFACE.md says what each number has. The library's
+/// The number of the interface that this crate is made for, 5; docs/INTERFACE.md says what each number has. The library's
 /// function is named for it, and every function here calls it, so that an archive of another interface does not link.
 #[must_use]
 pub fn interface() -> u32 {
     // SAFETY: it takes nothing and changes nothing.
-    unsafe { c::chromatic_interface_4() }
+    unsafe { c::chromatic_interface_5() }
 }
 
 /// Makes a pool empty. Gives 0; or 1, changing nothing, if the length is not 4 + 4C with C from 1 to 1,023. (C slots hold
@@ -97,4 +99,27 @@ pub fn load(pool: &mut [u32], saved: &[u8]) -> u64 {
     let _ = interface();
     // SAFETY: as above.
     unsafe { c::chromatic_load(pool.as_mut_ptr(), pool.len(), saved.as_ptr(), saved.len()) }
+}
+
+/// Marks the lowest attempt from 1 to `limit` that is not marked, whose key is notice · 65,536 + resident · 8 + attempt, and
+/// gives it: one text may go. Or gives, changing nothing, a refusal's code (15, 1, 2, 16 or 7, tried in that order) times
+/// 4,294,967,296, and no text may go. The notice is from 1 to 65,535, the resident from 0 to 8,191, the limit from 1 to 7.
+///
+/// Proved: `may-send-says`, `may-send-codes`, `full-sends-nothing`, `texts-at-most`.
+#[must_use = "whether a text may go is in here, and which attempt is marked for it"]
+pub fn may_send(pool: &mut [u32], notice: u32, resident: u32, limit: u32) -> u64 {
+    let _ = interface();
+    // SAFETY: pointer and length are those of a live slice that is lent exclusively for the call.
+    unsafe { c::chromatic_may_send(pool.as_mut_ptr(), pool.len(), notice, resident, limit) }
+}
+
+/// Deletes the notice's marks, attempts 1 to 7 of every resident, the smallest key first, and gives how many went; its count
+/// of texts begins afresh. Or gives, changing nothing, a refusal's code (15, 1 or 2, tried in that order) times 4,294,967,296.
+///
+/// Proved: `clear-says`.
+#[must_use = "how many marks went is in here; a refused call cleared nothing"]
+pub fn clear_notice(pool: &mut [u32], notice: u32) -> u64 {
+    let _ = interface();
+    // SAFETY: as above.
+    unsafe { c::chromatic_clear_notice(pool.as_mut_ptr(), pool.len(), notice) }
 }

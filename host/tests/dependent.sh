@@ -6,6 +6,7 @@ dependent() {
     log=$target/dependent.log
     one "README.md's program in a fresh crate prints what the page says" "$log" pasted "$root/README.md" one
     one "host/README.md's program in a fresh crate prints what the page says" "$log" pasted "$root/host/README.md" two
+    one "and so does its program of the send limit" "$log" pasted "$root/host/README.md" three '### The send limit'
     one "the crate brings no other crate" "$log" no_other_crate
     one "the archive's folder by CHROMATIC_ARCHIVE, whole and relative, without rt" "$log" folder_named
     if [ -n "$shipped" ]; then
@@ -33,8 +34,10 @@ fresh_crate() { # FOLDER [HOST [PAGE]]: without a program; the dependency as REA
     printf '[package]\nname = "stranger"\nversion = "0.1.0"\nedition = "2021"\n\n' >"$1/Cargo.toml"
     block toml "${3:-$root/README.md}" | sed "s,where/this/is/host,${2:-$root/host}," >>"$1/Cargo.toml"
 }
-block() { # LANGUAGE FILE: the first such block of a page, which may stand in a list
-    awk -v fence="\`\`\`$1" '{ line = $0; sub(/^ +/, "", line) } line == fence { inside = 1; next } line ~ /^```/ && inside { exit } inside' "$2"
+block() { # LANGUAGE FILE [HEADING]: the first such block of a page, or after that heading; it may stand in a list
+    awk -v fence="\`\`\`$1" -v heading="${3-}" '
+        heading != "" { if ($0 == heading) heading = ""; next }
+        { line = $0; sub(/^ +/, "", line) } line == fence { inside = 1; next } line ~ /^```/ && inside { exit } inside' "$2"
 }
 # Runs cargo in a folder as a user's shell would, with nothing of ours in its environment but what stands before it.
 cargo_in() { # FOLDER SUBCOMMAND...
@@ -43,10 +46,10 @@ cargo_in() { # FOLDER SUBCOMMAND...
     (cd "$folder" && cargo "$@" --offline --quiet)
 }
 
-pasted() { # PAGE NAME
+pasted() { # PAGE NAME [HEADING]
     fresh_crate "$strange/$2" "$root/host" "$1"
-    block rust "$1" >"$strange/$2/src/main.rs"
-    block text "$1" >"$strange/$2/expected"
+    block rust "$1" "${3-}" >"$strange/$2/src/main.rs"
+    block text "$1" "${3-}" >"$strange/$2/expected"
     [ -s "$strange/$2/expected" ] || { echo "$1 does not say what its program prints"; return 1; }
     cargo_in "$strange/$2" run >"$strange/$2/printed" || return 1
     diff "$strange/$2/expected" "$strange/$2/printed"
@@ -105,7 +108,8 @@ archive_replaced() {
     other_interface "$there/lib$lib.a" || return 1
     does_not_link env CHROMATIC_ARCHIVE="$there" cargo build --offline --quiet --manifest-path "$strange/replaced/Cargo.toml" || return 1
     # each function of raw.rs by itself
-    for call in 'prepare(&mut [])' 'audit(&[])' 'report(&[], 1)' 'batch(&mut [], &[], &mut [])' 'save(&[], &mut [])' 'load(&mut [], &[])'; do
+    for call in 'prepare(&mut [])' 'audit(&[])' 'report(&[], 1)' 'batch(&mut [], &[], &mut [])' 'save(&[], &mut [])' 'load(&mut [], &[])' \
+        'may_send(&mut [], 1, 0, 1)' 'clear_notice(&mut [], 1)'; do
         echo "fn main() { println!(\"{}\", chromatic::raw::$call); }" >"$strange/replaced/src/main.rs"
         does_not_link env CHROMATIC_ARCHIVE="$there" cargo build --offline --quiet --release --manifest-path "$strange/replaced/Cargo.toml" || return 1
     done
@@ -186,6 +190,11 @@ pub extern "C" fn marked(words: &mut [u32; 12]) -> bool {
     chromatic::Pool::resume(&mut words[..]).is_ok_and(|mut pool| matches!(pool.insert(1), Ok(chromatic::Inserted::NewlyMarked(_))))
 }
 #[no_mangle]
+pub extern "C" fn permitted(words: &mut [u32; 12], notice: u32, resident: u32) -> bool {
+    let text = chromatic::Text { notice, resident };
+    chromatic::Pool::resume(&mut words[..]).is_ok_and(|mut pool| matches!(pool.may_send(text, 3), Ok(chromatic::MaySend::Yes(_))))
+}
+#[no_mangle]
 pub extern "C" fn restarted(words: &mut [u32; 12], saved: &mut [u8; chromatic::Pool::saved_bytes_for(2)]) -> bool {
     chromatic::Pool::load(&mut words[..], saved).is_ok_and(|pool| pool.save(saved).is_ok())
 }
@@ -215,7 +224,8 @@ line_for_c() {
 }
 
 c_unused() {
-    for call in 'prepare(p, 8)' 'audit(p, 8)' 'report(p, 8, 1)' 'batch(p, 8, 0, 0, 0, 0)' 'save(p, 8, 0, 0)' 'load(p, 8, 0, 0)'; do
+    for call in 'prepare(p, 8)' 'audit(p, 8)' 'report(p, 8, 1)' 'batch(p, 8, 0, 0, 0, 0)' 'save(p, 8, 0, 0)' 'load(p, 8, 0, 0)' \
+        'may_send(p, 8, 1, 0, 1)' 'clear_notice(p, 8, 1)'; do
         printf '#include <chromatic.h>\nuint64_t f(uint32_t *p) { return chromatic_%s; }\n' "$call" >"$strange/used.c"
         printf '#include <chromatic.h>\nvoid f(uint32_t *p) { chromatic_%s; }\n' "$call" >"$strange/unused.c"
         cc -Wall -Werror -I "$root/host/include" -c -o "$strange/c.o" "$strange/used.c" || return 1

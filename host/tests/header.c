@@ -1,5 +1,5 @@
-/* The header compiles as C and C++, and its declarations fit the archive: P1, P6, a set saved and loaded, the excess weight, the order of
- * refusals, the places where a batch and saved bytes go wrong, NULL with length 0. */
+/* The header compiles as C and C++, and its declarations fit the archive: P1, P6, a set saved and loaded, the excess weight, the send limit,
+ * the order of refusals, the places where a batch and saved bytes go wrong, NULL with length 0. */
 #include "../include/chromatic.h"
 #include <stdio.h>
 #include <string.h>
@@ -24,16 +24,22 @@ static uint64_t wrong_at(uint32_t code, uint32_t place) {
     return UINT64_C(4294967296) * code + place;
 }
 
+/* A call that is refused without one. */
+static uint64_t refused_with(uint32_t code) {
+    return wrong_at(code, 0);
+}
+
 /* The named numbers are those of docs/RULES.md. */
 static void numbers(void) {
     const int codes[] = {CHROMATIC_GOOD, CHROMATIC_WRONG_LENGTH, CHROMATIC_RULES_BROKEN, CHROMATIC_BAD_COMMAND, CHROMATIC_FEW_ANSWERS,
                          CHROMATIC_KEY_PRESENT, CHROMATIC_KEY_ABSENT, CHROMATIC_NO_ROOM, CHROMATIC_NO_INNER_NODE, CHROMATIC_NO_KIND,
-                         CHROMATIC_CONDITION_FALSE, CHROMATIC_TOO_TALL, CHROMATIC_BUDGET_SPENT, CHROMATIC_BAD_SAVED, CHROMATIC_NO_FIT};
+                         CHROMATIC_CONDITION_FALSE, CHROMATIC_TOO_TALL, CHROMATIC_BUDGET_SPENT, CHROMATIC_BAD_SAVED, CHROMATIC_NO_FIT,
+                         CHROMATIC_OUT_OF_RANGE, CHROMATIC_ALL_USED};
     const int operations[] = {CHROMATIC_SEARCH, CHROMATIC_INSERT, CHROMATIC_DELETE, CHROMATIC_STEP, CHROMATIC_SETTLE};
     const int figures[] = {CHROMATIC_NODES, CHROMATIC_LEVEL, CHROMATIC_EXCESS_WEIGHT, CHROMATIC_CONFLICTS, CHROMATIC_OVER_DISTANCE,
                            CHROMATIC_RED_DISTANCE, CHROMATIC_BOUND};
     int i;
-    for (i = 0; i <= 14; i++) check(codes[i] == i, "codes are 0 to 14");
+    for (i = 0; i <= 16; i++) check(codes[i] == i, "codes are 0 to 16");
     for (i = 0; i < 5; i++) check(operations[i] == i + 1, "operations are 1 to 5");
     for (i = 0; i < 7; i++) check(figures[i] == i + 1, "figures are 1 to 7");
 }
@@ -132,13 +138,13 @@ static void over_a_restart(const uint32_t *pool, size_t words) {
     check(chromatic_audit(other, words) == CHROMATIC_GOOD, "audit of what is loaded");
     check(chromatic_save(other, words, again, count) == count && memcmp(again, out, sizeof out) == 0, "saved again, with just the room");
 
-    check(chromatic_save(pool, words - 1, out, 0) == UINT64_C(4294967296) * CHROMATIC_WRONG_LENGTH, "save: a wrong length first");
-    check(chromatic_load(other, words - 1, out, 0) == UINT64_C(4294967296) * CHROMATIC_WRONG_LENGTH, "load: a wrong length first");
-    check(chromatic_save(pool, words, out, count - 1) == UINT64_C(4294967296) * CHROMATIC_NO_FIT, "save: a byte too little");
+    check(chromatic_save(pool, words - 1, out, 0) == refused_with(CHROMATIC_WRONG_LENGTH), "save: a wrong length first");
+    check(chromatic_load(other, words - 1, out, 0) == refused_with(CHROMATIC_WRONG_LENGTH), "load: a wrong length first");
+    check(chromatic_save(pool, words, out, count - 1) == refused_with(CHROMATIC_NO_FIT), "save: a byte too little");
     check(chromatic_load(smaller, CHROMATIC_POOL_WORDS(3), out, count - 1) == wrong_at(CHROMATIC_BAD_SAVED, 15), "load: bad bytes second");
-    check(chromatic_load(smaller, CHROMATIC_POOL_WORDS(3), out, count) == UINT64_C(4294967296) * CHROMATIC_NO_FIT, "load: another C");
+    check(chromatic_load(smaller, CHROMATIC_POOL_WORDS(3), out, count) == refused_with(CHROMATIC_NO_FIT), "load: another C");
     other[3] = 1;
-    check(chromatic_save(other, words, out, 0) == UINT64_C(4294967296) * CHROMATIC_RULES_BROKEN, "save: broken rules second");
+    check(chromatic_save(other, words, out, 0) == refused_with(CHROMATIC_RULES_BROKEN), "save: broken rules second");
     check(CHROMATIC_CODE(chromatic_save(pool, words, NOTHING, 0)) == CHROMATIC_NO_FIT, "save to NULL");
     check(chromatic_load(other, words, NOTHING, 0) == wrong_at(CHROMATIC_BAD_SAVED, 0), "load from NULL");
     check(CHROMATIC_CODE(chromatic_save(NOTHING, 0, NOTHING, 0)) == CHROMATIC_WRONG_LENGTH, "save at NULL");
@@ -159,6 +165,57 @@ static void excess_weight(void) {
     check(chromatic_report(pool, words, CHROMATIC_EXCESS_WEIGHT) == 2, "the excess weight after seven steps");
     check(chromatic_batch(pool, words, one, sizeof one, answer, 2) == 0 && answer[0] == CHROMATIC_GOOD, "the last step");
     check(chromatic_report(pool, words, CHROMATIC_EXCESS_WEIGHT) == 0, "no excess weight is left");
+}
+
+/* Whether a key is in the set. */
+static int marked(uint32_t *pool, size_t words, uint32_t key) {
+    uint8_t batch[6] = {CHROMATIC_SEARCH};
+    uint32_t answer[CHROMATIC_ANSWER_WORDS] = {0};
+    size_t count = 1;
+    for (; key >= 0x80; key >>= 7) batch[count++] = CHROMATIC_AS(uint8_t, (key & 0x7F) | 0x80);
+    batch[count++] = CHROMATIC_AS(uint8_t, key);
+    check(chromatic_batch(pool, words, batch, count, answer, CHROMATIC_ANSWER_WORDS) == 0, "search");
+    return answer[0] == CHROMATIC_GOOD;
+}
+
+/* 7 slots hold 4 marks: three texts of a limit of 3, a fourth one's mark, and then there is no room. */
+static void send_limit(void) {
+    const uint32_t most = CHROMATIC_HIGHEST_NOTICE, last = CHROMATIC_HIGHEST_RESIDENT, first = CHROMATIC_LOWEST_RESIDENT;
+    uint32_t pool[CHROMATIC_POOL_WORDS(7)], attempt;
+    const size_t words = sizeof pool / sizeof pool[0];
+
+    check(CHROMATIC_TEXT_KEY(most, last, 7) == UINT32_MAX && CHROMATIC_TEXT_KEY(1, 0, 1) == 65537, "the first and the last key of a text");
+    memset(pool, 9, sizeof pool);
+    check(chromatic_may_send(pool, words - 1, most + 1, 0, 1) == refused_with(CHROMATIC_OUT_OF_RANGE), "a notice too large, first");
+    check(chromatic_may_send(pool, words - 1, 0, first, 1) == refused_with(CHROMATIC_OUT_OF_RANGE), "no notice");
+    check(chromatic_may_send(pool, words - 1, 1, last + 1, 1) == refused_with(CHROMATIC_OUT_OF_RANGE), "a resident too large");
+    check(chromatic_may_send(pool, words - 1, 1, 0, CHROMATIC_LOWEST_LIMIT - 1) == refused_with(CHROMATIC_OUT_OF_RANGE), "no limit");
+    check(chromatic_may_send(pool, words - 1, 1, 0, CHROMATIC_HIGHEST_LIMIT + 1) == refused_with(CHROMATIC_OUT_OF_RANGE), "a limit too large");
+    check(chromatic_clear_notice(pool, words - 1, CHROMATIC_LOWEST_NOTICE - 1) == refused_with(CHROMATIC_OUT_OF_RANGE), "clear: no notice");
+    check(chromatic_clear_notice(pool, words - 1, most + 1) == refused_with(CHROMATIC_OUT_OF_RANGE), "clear: a notice too large");
+    check(chromatic_may_send(pool, words - 1, most, last, CHROMATIC_HIGHEST_LIMIT) == refused_with(CHROMATIC_WRONG_LENGTH), "a wrong length second");
+    check(chromatic_clear_notice(pool, words - 1, most) == refused_with(CHROMATIC_WRONG_LENGTH), "clear: a wrong length second");
+    check(chromatic_may_send(pool, words, most, last, 1) == refused_with(CHROMATIC_RULES_BROKEN), "broken rules third");
+    check(chromatic_clear_notice(pool, words, most) == refused_with(CHROMATIC_RULES_BROKEN), "clear: broken rules third");
+    check(chromatic_may_send(NOTHING, 0, 1, 0, 1) == refused_with(CHROMATIC_WRONG_LENGTH), "may send at NULL");
+    check(chromatic_clear_notice(NOTHING, 0, 1) == refused_with(CHROMATIC_WRONG_LENGTH), "clear at NULL");
+
+    check(chromatic_prepare(pool, words) == CHROMATIC_GOOD, "prepare");
+    for (attempt = 1; attempt <= 3; attempt++) {
+        check(!marked(pool, words, CHROMATIC_TEXT_KEY(most, last, attempt)), "an attempt is not marked before");
+        check(chromatic_may_send(pool, words, most, last, 3) == attempt, "yes is the attempt alone");
+        check(marked(pool, words, CHROMATIC_TEXT_KEY(most, last, attempt)), "its mark is in the set");
+    }
+    check(chromatic_may_send(pool, words, most, last, 3) == refused_with(CHROMATIC_ALL_USED), "all attempts are used");
+    check(chromatic_may_send(pool, words, 1, first, CHROMATIC_LOWEST_LIMIT) == 1, "another notice has its own count");
+    check(chromatic_may_send(pool, words, most, last, 3) == refused_with(CHROMATIC_ALL_USED), "all used, before no room");
+    check(chromatic_may_send(pool, words, most, last, 4) == refused_with(CHROMATIC_NO_ROOM), "no room for a fourth");
+    check(chromatic_may_send(pool, words, 1, 1, 1) == refused_with(CHROMATIC_NO_ROOM), "no room for another resident");
+    check(chromatic_clear_notice(pool, words, most) == 3, "clear");
+    check(chromatic_clear_notice(pool, words, most) == 0, "clear where no mark is left");
+    check(marked(pool, words, CHROMATIC_TEXT_KEY(1, 0, 1)), "the other notice keeps its mark");
+    check(chromatic_may_send(pool, words, most, last, 3) == 1, "the count begins afresh");
+    check(chromatic_audit(pool, words) == CHROMATIC_GOOD, "audit after the texts");
 }
 
 int main(void) {
@@ -186,11 +243,12 @@ int main(void) {
         check(chromatic_report(pool, words, index) == figures[index], "report");
     over_a_restart(pool, words);
     excess_weight();
+    send_limit();
     refused = chromatic_batch(pool, words, batch, sizeof batch - 1, answers, 0);
     check(CHROMATIC_CODE(refused) == CHROMATIC_BAD_COMMAND && CHROMATIC_NUMBER(refused) == 13, "bad command");
     refused = chromatic_batch(pool, words, batch, sizeof batch, answers, room - 1);
-    check(refused == UINT64_C(4294967296) * CHROMATIC_FEW_ANSWERS, "few answers");
-    check(chromatic_interface_4() == CHROMATIC_INTERFACE, "the interface's number");
+    check(refused == refused_with(CHROMATIC_FEW_ANSWERS), "few answers");
+    check(chromatic_interface_5() == CHROMATIC_INTERFACE, "the interface's number");
     check(chromatic_batch(pool, words, two_hundred, sizeof two_hundred, answers, room) == 0 && answers[0] == CHROMATIC_KEY_ABSENT, "200 in two bytes");
 
     check(chromatic_batch(pool, words, NOTHING, 0, NOTHING, 0) == 0, "an empty batch at NULL");

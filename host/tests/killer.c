@@ -5,7 +5,8 @@
  *   half    of a write, when half of its bytes are written; of another call as before
  *   data    as after, and what was written and not flushed is lost, as by a power cut
  *   names   as after, and what was renamed since its folder was flushed has its old name, as by a power cut
- * With the word full nothing ends: the call is not made and fails, as on a full disk.
+ * With the word full nothing ends: the call is not made and fails, as on a full disk. Nothing is really flushed, which would take most of
+ * the tests' time: what a power cut leaves is played here, whatever the disk has.
  * Every call is a line of the file KILLER_LOG, if that is set. */
 #define _GNU_SOURCE
 #include <errno.h>
@@ -129,11 +130,11 @@ int ftruncate64(int fd, off64_t len) {
 }
 
 /* Flushing a folder keeps its names, flushing a file its bytes. */
-static int flushed(const char *call, long number, int fd) {
+static int flushed(const char *call, int fd) {
     struct stat what;
     HERE(call, name(fd), "");
-    const int done = (int)syscall(number, fd);
-    if (done == 0 && fstat(fd, &what) == 0 && S_ISDIR(what.st_mode)) {
+    const int done = fstat(fd, &what);
+    if (done == 0 && S_ISDIR(what.st_mode)) {
         if (replaced) unlinkat(AT_FDCWD, was, 0);
         renamed = replaced = 0;
     } else if (done == 0 && fd >= 0 && fd < FILES && unflushed[fd]) {
@@ -142,8 +143,8 @@ static int flushed(const char *call, long number, int fd) {
     }
     return (int)then(ends, done);
 }
-int fsync(int fd) { return flushed("fsync", SYS_fsync, fd); }
-int fdatasync(int fd) { return flushed("fdatasync", SYS_fdatasync, fd); }
+int fsync(int fd) { return flushed("fsync", fd); }
+int fdatasync(int fd) { return flushed("fdatasync", fd); }
 
 int rename(const char *old, const char *new) {
     HERE("rename", old, new);

@@ -1,82 +1,93 @@
 # Sourced by host/test: the example restart. What it prints and what it refuses; and that it comes up with every mark whose text went,
 # wherever it was killed or the power was cut: tests/killer.c ends it at each of its calls in turn. Then faults are planted in copies of
-# it, and each is seen by one of these tests.
+# it, and each is seen by one of these tests. What the tests of an example of examples/store share stands here too (dispatcher.sh).
+
+# Builds the example and the killer, and sets what its tests go by.
+service_built() { # EXAMPLE
+    service_named "$1"
+    log=$target/$1.log
+    rm -rf "$area"
+    mkdir -p "$area/planted/store"
+    program=$target/native/release/examples/$1
+    if ! native_cargo build --quiet --example "$1" >"$log" 2>&1 || ! cc -std=gnu11 -Wall -Wextra -Werror -O1 -shared -fPIC -o "$area/killer.so" "$root/host/tests/killer.c" >>"$log" 2>&1; then
+        cat "$log"
+        count "the example $1 and its killer build" 0 1
+        return 1
+    fi
+}
+service_named() { # EXAMPLE
+    example=$1 area=$target/$1 store=$target/$1/store
+}
 
 restarts() {
-    log=$target/restart.log
-    area=$target/restart store=$target/restart/store
-    rm -rf "$area"
-    mkdir -p "$area"
-    program=$target/native/release/examples/restart
-    if ! native_cargo build --quiet --example restart >"$log" 2>&1 || ! cc -std=gnu11 -Wall -Wextra -Werror -O1 -shared -fPIC -o "$area/killer.so" "$root/host/tests/killer.c" >>"$log" 2>&1; then
-        cat "$log"
-        count "the example restart and its killer build" 0 1
-        return
-    fi
+    service_built restart || return 0
     one "restart refuses a file that is damaged, of other slots or not there" "$log" refuses_bad_files "$program"
     one "restart keeps out a second service" "$log" keeps_out_a_second "$program"
     one "restart flushes the file, renames, flushes the folder, then sends" "$log" in_order "$program"
     one "restart killed at every call comes up with every mark" "$log" killed_anywhere "$program" before after half
     one "restart comes up with every mark after a power cut at every call" "$log" killed_anywhere "$program" data names
     one "restart comes up with every mark after a full disk at every call" "$log" full_anywhere "$program"
-    one "restart killed anywhere while it begins" "$log" killed_in_begin "$program"
-    mkdir -p "$area/planted"
-    planted "the file is written in place" 's/File::create(&self.beside)/File::create(\&self.marks)/; /fs::rename/d' killed_anywhere before after half
-    planted "the text goes before the save" '/self.save(&pool)/d; s/send(mark);/send(mark); self.save(\&pool)?;/' killed_anywhere before after half
+    one "restart killed anywhere while it begins" "$log" killed_in_begin "$program" 6 sends_ten
+    planted "the file is written in place" 's/File::create(&beside)/File::create(\&there)/; /fs::rename/d' killed_anywhere before after half
+    planted "the text goes before the save" '/^ *store.save(&pool)/,/})?;/d; s/send(mark);/send(mark); store.save(\&pool)?;/' killed_anywhere before after half
     planted "the rename comes before the flush" 's/file.sync_all()?;//; s/fs::rename(.*)?;/& file.sync_all()?;/' killed_anywhere data names
     planted "the file is not flushed" '/file.sync_all()?;/d' killed_anywhere data names
     planted "the folder is not flushed" '/self.folder.sync_all()?;/d' killed_anywhere data names
-    planted "a failed save is passed over" 's/self.save(&pool).*?;/let _ = self.save(\&pool);/' full_anywhere
-    planted "the folder is flushed too late" 's/self.folder.sync_all()?;//; s/send(mark);/& self.folder.sync_all()?;/' in_order
-    planted "an empty set in place of one that is refused" 's/self.load()?/self.load().or_else(|_| Pool::prepare(vec![0; Pool::words_for(SLOTS)]))?/' refuses_bad_files
+    planted "a failed save is passed over" 's/store.save(&pool).map_err/let _ = &/; s/})?;/});/' full_anywhere
+    planted "the folder is flushed too late" 's/self.folder.sync_all()?;//; s/^    folder: File/    pub folder: File/; s/send(mark);/& store.folder.sync_all()?;/' in_order
+    planted "an empty set in place of one that is refused" 's/store.load()?/store.load().or_else(|_| chromatic::Pool::prepare(vec![0; chromatic::Pool::words_for(127)]))?/' refuses_bad_files
     planted "no lock is taken" 's/if !locked(&folder)/if false \&\& !locked(\&folder)/' keeps_out_a_second
-    planted "begins over marks that are there" 's/if self.marks.try_exists()/if false \&\& self.marks.try_exists()/' refuses_bad_files
+    planted "begins over marks that are there" 's/if self.marks().try_exists()/if false \&\& self.marks().try_exists()/' refuses_bad_files
 }
 
 # The program with a fault in it does not pass the test.
 planted() { # FAULT SED TEST [WORDS]: the test is given the program before the words
-    one "with a fault the test of restart fails: $1" "$log" seen "$@"
+    one "with a fault the test of $example fails: $1" "$log" seen "$@"
 }
 seen() { # FAULT SED TEST [WORDS]
     shift
     edit=$1 test=$2
     shift 2
-    sed "$edit" "$root/host/examples/restart.rs" >"$area/planted/restart.rs"
-    ! cmp -s "$root/host/examples/restart.rs" "$area/planted/restart.rs" || { echo "the edit changes nothing: $edit"; return 1; }
-    rustc --edition 2021 -A warnings --extern chromatic="$target/native/release/libchromatic.rlib" -L "dependency=$target/native/release/deps" -o "$area/planted/restart" "$area/planted/restart.rs" || return 1
-    ! "$test" "$area/planted/restart" "$@" || { echo "the fault is not seen"; return 1; }
+    changed=0
+    for file in "$example.rs" store/mod.rs; do
+        sed "$edit" "$root/host/examples/$file" >"$area/planted/$file"
+        cmp -s "$root/host/examples/$file" "$area/planted/$file" || changed=1
+    done
+    [ "$changed" -eq 1 ] || { echo "the edit changes nothing: $edit"; return 1; }
+    rustc --edition 2021 -A warnings --extern chromatic="$target/native/release/libchromatic.rlib" -L "dependency=$target/native/release/deps" -o "$area/planted/$example" "$area/planted/$example.rs" || return 1
+    ! "$test" "$area/planted/$example" "$@" || { echo "the fault is not seen"; return 1; }
 }
 
 # What it prints over some runs is what it is known to print.
 restart_prints() { # COMMAND...
-    store=$target/restart/store
+    service_named restart
     rm -rf "$store"
     {
-        restart_run "$@" serve </dev/null
+        service_run "$@" serve </dev/null
         mkdir -p "$store"
-        restart_run "$@" serve </dev/null
-        restart_run "$@" begin </dev/null
-        printf '10\n20\n10\nten\n' | restart_run "$@" serve
-        printf '20\n30\n' | restart_run "$@" serve
-        restart_run "$@" begin </dev/null
-        printf '%s\n' 4294967295 4294967296 | restart_run "$@" serve
+        service_run "$@" serve </dev/null
+        service_run "$@" begin </dev/null
+        printf '10\n20\n10\nten\n' | service_run "$@" serve
+        printf '20\n30\n' | service_run "$@" serve
+        service_run "$@" begin </dev/null
+        printf '%s\n' 4294967295 4294967296 | service_run "$@" serve
         cp "$store/marks" "$store/whole"
         head -c 7 "$store/whole" >"$store/marks"
-        echo 40 | restart_run "$@" serve
+        echo 40 | service_run "$@" serve
         printf '\011\000' >"$store/marks" # an empty set of 9 slots
-        echo 40 | restart_run "$@" serve
+        echo 40 | service_run "$@" serve
         cp "$store/whole" "$store/marks"
-        seq 63 | restart_run "$@" serve | head -n 4
-        printf '63\n64\n' | restart_run "$@" serve
+        seq 63 | service_run "$@" serve | head -n 4
+        printf '63\n64\n' | service_run "$@" serve
     } >"$target/restart.out" 2>&1
     diff "$root/host/examples/restart.expected" "$target/restart.out"
 }
-restart_run() { # COMMAND... WORD
+service_run() { # COMMAND... WORD
     for word do :; done
-    echo "\$ restart $word FOLDER"
+    echo "\$ $example $word FOLDER"
     status=0
-    "$@" "$store" >"$target/restart.said" 2>&1 || status=$?
-    sed "s,$store,FOLDER,g" "$target/restart.said"
+    "$@" "$store" >"$target/$example.said" 2>&1 || status=$?
+    sed "s,$store,FOLDER,g" "$target/$example.said"
     [ "$status" -eq 0 ] || echo "(status $status)"
 }
 
@@ -143,20 +154,25 @@ once() { # FIRST SECOND
         }' "$1" "$2"
 }
 
-# Killed while it begins, there are no marks or an empty set, and either way it can be gone on from there.
-killed_in_begin() { # PROGRAM
+# Killed while it begins, there are no marks or an empty set, and either way it can be gone on from there: then the command holds.
+killed_in_begin() { # PROGRAM CALLS COMMAND...: begin makes more calls than that
+    tried=$1 calls=$2
+    shift 2
     for how in before after half data names; do
         at=0 status=137
         while [ "$status" -eq 137 ]; do
             at=$((at + 1)) status=0
             rm -rf "$store"
             mkdir -p "$store"
-            killing "$at" "$how" "$1" begin >"$area/said" 2>&1 || status=$?
-            "$1" begin "$store" >>"$area/said" 2>&1 || grep -q 'there are marks already' "$area/said" || { cat "$area/said"; return 1; }
-            [ "$(echo 10 | "$1" serve "$store" | tr '\n' ';')" = 'up with 0 marks of 64;10: text sent;' ] || { echo "killed at call $at ($how) of begin"; return 1; }
+            killing "$at" "$how" "$tried" begin >"$area/said" 2>&1 || status=$?
+            "$tried" begin "$store" >>"$area/said" 2>&1 || grep -q 'there are marks already' "$area/said" || { cat "$area/said"; return 1; }
+            "$@" "$tried" || { echo "killed at call $at ($how) of begin"; return 1; }
         done
-        [ "$status" -eq 0 ] && [ "$at" -gt 6 ] || { cat "$area/said"; echo "status $status at call $at ($how)"; return 1; }
+        [ "$status" -eq 0 ] && [ "$at" -gt "$calls" ] || { cat "$area/said"; echo "status $status at call $at ($how)"; return 1; }
     done
+}
+sends_ten() { # PROGRAM
+    [ "$(echo 10 | "$1" serve "$store" | tr '\n' ';')" = 'up with 0 marks of 64;10: text sent;' ]
 }
 
 in_order() { # PROGRAM

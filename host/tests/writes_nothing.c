@@ -1,5 +1,5 @@
-/* These calls write no pool word: searches, refused commands, a settle with nothing to do, a save, and calls refused whole, which write no
- * answer word and no output byte either. The pool (and there the answers or the output) lie in a page that may only be read, and a write
+/* These calls write no pool word: searches, refused commands, a settle with nothing to do, a save, a clearing that finds no mark, and calls
+ * refused whole, which write no answer word and no output byte either. The pool (and there the answers or the output) lie in a page that may only be read, and a write
  * would end the test by a signal. */
 #define _DEFAULT_SOURCE
 #include "../include/chromatic.h"
@@ -63,6 +63,27 @@ static void saving(uint32_t *pool, size_t words, uint8_t *out, size_t page) {
     check(chromatic_load(pool, words, out, count) == 7, "load, from bytes that may only be read");
 }
 
+/* Texts that may not go, and notices without a mark. The pool is full: attempt 1 for resident 0 of notice 1, and three more. */
+static void sending(uint32_t *pool, size_t words, size_t page) {
+    check(chromatic_prepare(pool, words) == CHROMATIC_GOOD, "prepare");
+    for (uint32_t resident = 0; resident < 4; resident++) check(chromatic_may_send(pool, words, 1, resident, 1) == 1, "may send");
+    check(mprotect(pool, page, PROT_READ) == 0, "the pool may only be read");
+    check(CHROMATIC_CODE(chromatic_may_send(pool, words, 1, CHROMATIC_HIGHEST_RESIDENT + 1, 1)) == CHROMATIC_OUT_OF_RANGE, "may send refused with 15");
+    check(CHROMATIC_CODE(chromatic_may_send(pool, words - 1, 1, 0, 1)) == CHROMATIC_WRONG_LENGTH, "may send refused with 1");
+    check(CHROMATIC_CODE(chromatic_may_send(pool, words, 1, 0, 1)) == CHROMATIC_ALL_USED, "may send refused with 16");
+    check(CHROMATIC_CODE(chromatic_may_send(pool, words, 1, 0, 2)) == CHROMATIC_NO_ROOM, "may send refused with 7, a second text");
+    check(CHROMATIC_CODE(chromatic_may_send(pool, words, 2, 0, 1)) == CHROMATIC_NO_ROOM, "may send refused with 7, another notice");
+    check(CHROMATIC_CODE(chromatic_clear_notice(pool, words, CHROMATIC_LOWEST_NOTICE - 1)) == CHROMATIC_OUT_OF_RANGE, "clear refused with 15");
+    check(CHROMATIC_CODE(chromatic_clear_notice(pool, words - 1, 1)) == CHROMATIC_WRONG_LENGTH, "clear refused with 1");
+    check(chromatic_clear_notice(pool, words, 2) == 0, "a notice without a mark is cleared");
+    check(mprotect(pool, page, PROT_READ | PROT_WRITE) == 0, "the pool may be written");
+    pool[2] += 1;
+    check(mprotect(pool, page, PROT_READ) == 0, "the pool may only be read");
+    check(CHROMATIC_CODE(chromatic_may_send(pool, words, 1, 0, 1)) == CHROMATIC_RULES_BROKEN, "may send refused with 2");
+    check(CHROMATIC_CODE(chromatic_clear_notice(pool, words, 1)) == CHROMATIC_RULES_BROKEN, "clear refused with 2");
+    check(mprotect(pool, page, PROT_READ | PROT_WRITE) == 0, "the pool may be written");
+}
+
 int main(void) {
     const size_t page = (size_t)sysconf(_SC_PAGESIZE), words = CHROMATIC_POOL_WORDS(7);
     uint32_t *pool = mmap(NULL, page, PROT_READ | PROT_WRITE, MAP_PRIVATE | MAP_ANONYMOUS, -1, 0);
@@ -79,6 +100,7 @@ int main(void) {
         printf("writes_nothing.c: no pages\n");
         return 1;
     }
+    sending(pool, words, page);
     check(chromatic_prepare(pool, words) == CHROMATIC_GOOD, "prepare");
     check(chromatic_batch(pool, words, filling, sizeof filling, answers, room) == 0, "the pool is filled");
     check(mprotect(pool, page, PROT_READ) == 0, "the pool may only be read");

@@ -1,7 +1,7 @@
 -- Each export's contract decides its result and every lent word and byte. Assumes nothing.
 use Rattle.tree.proofs.Deciding.{DecidesResult, DecidesWords, equal}
-use Rattle.chromatic.proofs.chromatic_interface_4.Kinds as interface-kinds
-use Rattle.chromatic.proofs.chromatic_interface_4.Reads as interface-reads
+use Rattle.chromatic.proofs.chromatic_interface_5.Kinds as interface-kinds
+use Rattle.chromatic.proofs.chromatic_interface_5.Reads as interface-reads
 use Rattle.chromatic.proofs.chromatic_prepare.Kinds as prepare-kinds
 use Rattle.chromatic.proofs.chromatic_prepare.Reads as prepare-reads
 use Rattle.chromatic.proofs.chromatic_audit.Kinds as audit-kinds
@@ -14,6 +14,10 @@ use Rattle.chromatic.proofs.chromatic_save.Kinds as save-kinds
 use Rattle.chromatic.proofs.chromatic_save.Reads as save-reads
 use Rattle.chromatic.proofs.chromatic_load.Kinds as load-kinds
 use Rattle.chromatic.proofs.chromatic_load.Reads as load-reads
+use Rattle.chromatic.proofs.chromatic_may_send.Kinds as may-send-kinds
+use Rattle.chromatic.proofs.chromatic_may_send.Reads as may-send-reads
+use Rattle.chromatic.proofs.chromatic_clear_notice.Kinds as clear-notice-kinds
+use Rattle.chromatic.proofs.chromatic_clear_notice.Reads as clear-notice-reads
 
 pub interface-decides : DecidesResult 0 interface-kinds.ps interface-kinds.r interface-reads.Post
 interface-decides κs a x y e f p q = equal p q
@@ -50,3 +54,15 @@ load-decides κs a x y e f p q = equal (p .0) (q .0)
 
 pub load-decides-pool : DecidesWords 2 load-kinds.ps load-kinds.r (λ κs e. e .0 .now) load-reads.Post
 load-decides-pool κs a x y e f p q = equal (p .1) (q .1)
+
+pub may-send-decides : DecidesResult 1 may-send-kinds.ps may-send-kinds.r may-send-reads.Post
+may-send-decides κs a x y e f p q = equal (p .0) (q .0)
+
+pub may-send-decides-pool : DecidesWords 1 may-send-kinds.ps may-send-kinds.r (λ κs e. e .0 .now) may-send-reads.Post
+may-send-decides-pool κs a x y e f p q = equal (p .1) (q .1)
+
+pub clear-notice-decides : DecidesResult 1 clear-notice-kinds.ps clear-notice-kinds.r clear-notice-reads.Post
+clear-notice-decides κs a x y e f p q = equal (p .0) (q .0)
+
+pub clear-notice-decides-pool : DecidesWords 1 clear-notice-kinds.ps clear-notice-kinds.r (λ κs e. e .0 .now) clear-notice-reads.Post
+clear-notice-decides-pool κs a x y e f p q = equal (p .1) (q .1)

@@ -2,4 +2,5 @@ pub mod Exports
 pub mod Restart
 pub mod Places
 pub mod Excess
+pub mod Sends
 pub mod Decides

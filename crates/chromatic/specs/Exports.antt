@@ -1,4 +1,4 @@
--- Documents 01 and 02 (RULES 10): what the exported report, batch, save and load return. And the number of the interface, which is ours.
+-- Documents 01 and 02 (RULES 10): what the exported report, batch, save, load, may send and clear notice return. And the number of the interface, which is ours.
 use mathlib.Core.List.{List}
 use Prim.Native.Nat.{ℕ, _+_, _*_}
 use Rattle.tree.specs.declared.Answer.{Answer}
@@ -20,10 +20,10 @@ inOneWord code number = code * codeUnit + number
 unfoldable pub returned : Call → ℕ
 returned k = inOneWord (k .code) (k .number)
 
--- Save and load return theirs in the same way.
+-- Save, load and the send limit's two calls return theirs in the same way.
 unfoldable pub returnedAnswer : Answer → ℕ
 returnedAnswer a = inOneWord (codeOf a) (numberOf a)
 
--- RULES 10.4: the number that the name of `chromatic_interface_4` carries (docs/INTERFACE.md).
+-- RULES 10.4: the number that the name of `chromatic_interface_5` carries (docs/INTERFACE.md).
 abbrev pub interfaceNumber : ℕ
-interfaceNumber = 4
+interfaceNumber = 5

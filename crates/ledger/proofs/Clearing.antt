@@ -118,3 +118,14 @@ module _ (p : List ℕ) (n : ℕ) (words : Words32 p) where
       go (no-length e h) z = refl
       go (no-pool e h f) z = refl
       go (goes-on e h g) z = from-says noticeKeys (markKey n 0 0) g .none-kept z
+
+  -- how many went, at most
+  pub clear-few : numberOf ((clearNotice p n) .answer) ≤ noticeKeys
+  unfolding clearNotice clearing
+  clear-few = go (judged-ends p words (clearing p (markKey n 0 0)) (noticeGood n))
+    where
+      go : {c : Call} → Judged p (clearing p (markKey n 0 0)) (noticeGood n) c → numberOf (c .answer) ≤ noticeKeys
+      go (outside e) = omega arith
+      go (no-length e h) = omega arith
+      go (no-pool e h f) = omega arith
+      go (goes-on e h g) = from-says noticeKeys (markKey n 0 0) g .few

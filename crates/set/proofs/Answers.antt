@@ -3,7 +3,7 @@
 -- Why: on words that show a sound State each operation is the State's (the crates' `…-shows`), of which crate tree says what it answers
 -- and which keys it moves, and Members.antt what the words then show. Assumes nothing.
 use mathlib.Core.Path.{_≡_, refl, ap, sym, _∙_}
-use mathlib.Core.Logic.{_↔_}
+use mathlib.Core.Logic.{_↔_, _≢_}
 use mathlib.Core.Bool.{true}
 use mathlib.Core.List.{List}
 use lib.ListN.{length}
@@ -15,7 +15,7 @@ use Rattle.tree.specs.declared.Refusal.{Refusal}
 use Rattle.tree.specs.declared.Refusal.the-variants.{KeyPresent, KeyAbsent, NoRoom}
 use Rattle.tree.specs.Codes.{codeOf}
 use Rattle.tree.specs.Tree.{countIn}
-use Rattle.tree.specs.State.{Top, empty, full, nodes, keyEnd, Sound, Outcome, prepared, keysOf, isIn, report}
+use Rattle.tree.specs.State.{Top, empty, full, nodes, keyEnd, Sound, Outcome, prepared, keysOf, isIn, slotsNeeded, report}
 use Rattle.tree.proofs.Order.{leaves-keys, nodes-of}
 use Rattle.tree.proofs.Updated.{isIn-once, SearchSays, found, missing, InsertSays, present, no-room, added, DeleteSays, absent, removed}
 use Rattle.tree.proofs.Updated.{search-says as search-says-state, insert-says as insert-says-state, delete-says as delete-says-state, insert-sound, delete-sound}
@@ -51,6 +51,15 @@ member-once g x = omega (arith, member-shown (g .sound) (g .shows) x, isIn-once 
 
 pub room-exact : {p : List ℕ} → Passing p → pred (2 * held p) + room p ≡ slotsIn p
 room-exact g = room-held (g .sound) (g .shows) ∙ sym (shows-length-good (g .sound) (g .shows) .1)
+
+-- "1 if empty, else 2"
+pub needed-exact : {p : List ℕ} → Passing p → (held p ≡ 0 → needed p ≡ 1) × (held p ≢ 0 → needed p ≡ 2)
+unfolding keysOf slotsNeeded
+needed-exact {p} g = rw (held-shown (g .sound) (g .shows), needed-shown (g .sound) (g .shows)) (go (g .state .top))
+  where
+    go : (t : Top) → (length (keysOf t) ≡ 0 → slotsNeeded t ≡ 1) × (length (keysOf t) ≢ 0 → slotsNeeded t ≡ 2)
+    go empty = (λ z. refl, λ n. absurd (n refl))
+    go (full t) = (λ z. absurd (omega (arith, nodes-of t, leaves-keys t)), λ n. refl)
 
 -- The header's N is the slots that the keys take, and so is the report's first number. "Root is 0 exactly when N is 0", and then there is
 -- no key and every slot is free.

@@ -59,6 +59,10 @@ member-once g = answers.member-once g
 pub room-exact : {p : List ℕ} → Passing p → pred (2 * held p) + room p ≡ slotsIn p
 room-exact g = answers.room-exact g
 
+-- The next key needs 1 free slot if the set is empty, else 2.
+pub needed-exact : {p : List ℕ} → Passing p → (held p ≡ 0 → needed p ≡ 1) × (held p ≢ 0 → needed p ≡ 2)
+needed-exact g = answers.needed-exact g
+
 -- The header's N is those slots, and so is the report's first number. A pool is empty exactly when N is 0, and then its root is 0: no
 -- key, and C free slots, on whatever chain.
 module _ {p : List ℕ} (g : Passing p) where

@@ -94,7 +94,7 @@ unfoldable pub besideOf : ℕ → Option Tree → Tree → Option Tree
 besideOf x b (leaf s k) = b
 besideOf x b (node s k wl l wr r) = elim (leb x k) [ true ↦ besideOf x (some r) l | false ↦ besideOf x b r ]
 
--- Where the search for x ends in what is remembered; and the key where it ends in t, if that is at or above x, else that one.
+-- The key where the search for x ends in what is remembered; and the key where it ends first, if that is at or above x, else that one.
 unfoldable pub keyBeside : ℕ → Option Tree → Option ℕ
 keyBeside x none = none
 keyBeside x (some r) = some (reachedKey x r)
@@ -130,17 +130,19 @@ unfolding orElse
 or-some none k m = refl
 or-some (some j) k m = refl
 
+-- With what was remembered before, which comes after the keys of t.
 way-first : (x lo hi : ℕ) (b : Option Tree) (t : Tree) → Ordered lo hi t
     → keyAtOr x (reachedKey x t) (keyBeside x (besideOf x b t)) ≡ orElse (firstFrom x (keys t)) (keyBeside x b)
 unfolding Ordered keys reachedKey reach besideOf keyBeside keyAtOr firstFrom orElse
 way-first x lo hi b (leaf s k) o = either-way x k
     (λ h. rw (le-leb x k h, keyAtOr, first-here x k [] h))
     (λ h. rw (lt-leb x k h, keyAtOr, first-later x k [] h))
-way-first x lo hi b (node s k wl l wr r) o = either-way x k
-    (λ h.
-    let e = way-first x lo (suc k) (some r) l (o .0) ∙ or-some (firstFrom x (keys l)) (reachedKey x r) (keyBeside x b) in
-    rw (le-leb x k h, besideOf, reachedKey, reach, first-append x (keys l) (keys r), first-of x (suc k) hi r (o .1) (omega arith)) e)
-    (λ h. rw (lt-leb x k h, besideOf, reachedKey, reach, first-append x (keys l) (keys r), first-none x lo (suc k) l (o .0) h) (way-first x (suc k) hi b r (o .1)))
+way-first x lo hi b (node s k wl l wr r) o =
+    let left = way-first x lo (suc k) (some r) l (o .0) ∙ or-some (firstFrom x (keys l)) (reachedKey x r) (keyBeside x b) in
+    let right = way-first x (suc k) hi b r (o .1) in
+    either-way x k
+    (λ h. rw (le-leb x k h, besideOf, reachedKey, reach, first-append x (keys l) (keys r), first-of x (suc k) hi r (o .1) (omega arith)) left)
+    (λ h. rw (lt-leb x k h, besideOf, reachedKey, reach, first-append x (keys l) (keys r), first-none x lo (suc k) l (o .0) h) right)
 
 or-none : (o : Option ℕ) → orElse o none ≡ o
 unfolding orElse

@@ -23,8 +23,8 @@ unsafe fn lent_mut<'a, T>(pointer: *mut T, len: usize) -> &'a mut [T] {
 }
 
 #[no_mangle]
-pub extern "C" fn chromatic_interface_4() -> u32 {
-    4
+pub extern "C" fn chromatic_interface_5() -> u32 {
+    5
 }
 
 /// # Safety
@@ -74,4 +74,18 @@ pub unsafe extern "C" fn chromatic_save(pool: *const u32, pool_len: usize, out: 
 #[no_mangle]
 pub unsafe extern "C" fn chromatic_load(pool: *mut u32, pool_len: usize, saved: *const u8, saved_len: usize) -> u64 {
     unsafe { crate::load(lent_mut(pool, pool_len), lent(saved, saved_len)) }
+}
+
+/// # Safety
+/// As `lent_mut` of the pool.
+#[no_mangle]
+pub unsafe extern "C" fn chromatic_may_send(pool: *mut u32, pool_len: usize, notice: u32, resident: u32, limit: u32) -> u64 {
+    crate::may_send(unsafe { lent_mut(pool, pool_len) }, notice, resident, limit)
+}
+
+/// # Safety
+/// As `lent_mut` of the pool.
+#[no_mangle]
+pub unsafe extern "C" fn chromatic_clear_notice(pool: *mut u32, pool_len: usize, notice: u32) -> u64 {
+    crate::clear_notice(unsafe { lent_mut(pool, pool_len) }, notice)
 }

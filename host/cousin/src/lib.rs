@@ -7,6 +7,7 @@
 mod batch;
 #[cfg(feature = "exports")]
 mod exports;
+mod ledger;
 mod pool;
 mod report;
 mod saved;
@@ -14,6 +15,7 @@ mod steps;
 mod updates;
 
 pub use batch::batch;
+pub use ledger::{clear_notice, may_send};
 pub use pool::{audit, prepare};
 pub use report::report;
 pub use saved::{load, save};
@@ -36,4 +38,6 @@ pub mod code {
     pub const BUDGET_SPENT: u32 = 12;
     pub const NEVER_WRITTEN: u32 = 13;
     pub const OTHER_SIZE: u32 = 14;
+    pub const OUT_OF_RANGE: u32 = 15;
+    pub const ALL_MARKED: u32 = 16;
 }

@@ -4,7 +4,8 @@ use crate::pools::{grown, Shape, Weights};
 use crate::rng::Rng;
 use crate::twin;
 use chromatic::{
-    raw, Answer, Batch, Command, Deleted, Full, Inserted, Kind, Mark, NoKind, Pool, Refused, Searched, Settled, Stepped, Words,
+    raw, Answer, Batch, Command, Deleted, Full, Inserted, Kind, Mark, MaySend, NoKind, Permit, Pool, Refused, Searched, Settled, Stepped,
+    Text, Words,
 };
 use std::cell::Cell;
 use std::error::Error;
@@ -266,8 +267,8 @@ fn the_page_s_batch_goes_wrong_at_byte_40() -> Result<(), Box<dyn Error>> {
     }
     // what it says that these are, and its one fault
     let mut batch = Batch::new();
-    for resident in 1..=6 {
-        batch.push_insert(4411 << 16 | resident)?;
+    for attempt in 1..=6 {
+        batch.push_insert(4411 << 16 | attempt)?;
     }
     batch.push_settle(9)?;
     batch.push_step(1, Kind::Three)?;
@@ -524,6 +525,209 @@ fn a_mark_can_be_withdrawn() -> Result<(), Refused> {
     Ok(())
 }
 
+fn permit(answer: MaySend) -> Permit {
+    match answer {
+        MaySend::Yes(permit) => permit,
+        other => panic!("{other:?}"),
+    }
+}
+
+/// A case without the permit, to be compared.
+#[derive(Clone, Copy, Debug, PartialEq, Eq)]
+enum May {
+    Attempt(u32),
+    AllUsed,
+    NoRoom,
+}
+
+fn may(pool: &mut Pool<impl Words>, text: Text, limit: u32) -> Result<May, Refused> {
+    pool.may_send(text, limit).map(|answer| match answer {
+        MaySend::Yes(permit) => May::Attempt(permit.attempt()),
+        MaySend::AllUsed => May::AllUsed,
+        MaySend::NoRoom => May::NoRoom,
+    })
+}
+
+/// Which attempts of a text are marked, 0 too.
+fn attempts(pool: &mut Pool<impl Words>, text: Text) -> Vec<u32> {
+    let key = text.notice * 65_536 + text.resident * 8;
+    (0..8).filter(|attempt| matches!(pool.search(key + attempt), Ok(Searched::Marked { .. }))).collect()
+}
+
+/// A permit names its text and the key that was marked; that key and no other is new in the set. At the edges of each range.
+#[test]
+fn a_permit_s_attempt_is_marked() -> Result<(), Refused> {
+    for notice in [1, 4411, 65_535] {
+        for resident in [0, 1, 4095, 8191] {
+            let mut pool = Pool::prepare(vec![0; Pool::words_for(15)])?;
+            for attempt in 1..=7 {
+                let permit = permit(pool.may_send(Text { notice, resident }, 7)?);
+                assert_eq!((permit.notice(), permit.resident(), permit.attempt()), (notice, resident, attempt));
+                assert_eq!(permit.key(), notice * 65_536 + resident * 8 + attempt);
+                assert!(matches!(pool.search(permit.key())?, Searched::Marked { .. }));
+                assert_eq!(pool.keys()?, attempt.into());
+                pool.audit()?;
+            }
+            assert_eq!(may(&mut pool, Text { notice, resident }, 7)?, May::AllUsed);
+        }
+    }
+    let (notices, residents, limits) = (Text::NOTICES, Text::RESIDENTS, Text::LIMITS);
+    assert_eq!((notices, residents, limits), (1..=65_535, 0..=8_191, 1..=7));
+    Ok(())
+}
+
+/// The lowest attempt that is not marked counts, not how many are: a gap is filled, and marks above the limit do not count.
+#[test]
+fn the_lowest_gap_is_the_attempt() -> Result<(), Refused> {
+    let text = Text { notice: 4411, resident: 12 };
+    let key = |attempt| 4411 << 16 | 12 << 3 | attempt;
+    for limit in 1..=7 {
+        for set in 0..1_u32 << 8 {
+            let mut pool = Pool::prepare(vec![0; Pool::words_for(31)])?;
+            let marked: Vec<u32> = (0..8).filter(|attempt| set >> attempt & 1 == 1).collect();
+            marked.iter().for_each(|&attempt| drop(mark(pool.insert(key(attempt)).unwrap())));
+            let before = pool.words().to_vec();
+            match (1..=limit).find(|attempt| !marked.contains(attempt)) {
+                Some(gap) => {
+                    assert_eq!(may(&mut pool, text, limit)?, May::Attempt(gap), "limit {limit}, marked {marked:?}");
+                    assert_eq!(attempts(&mut pool, text).len(), marked.len() + 1);
+                }
+                None => {
+                    assert_eq!(may(&mut pool, text, limit)?, May::AllUsed, "limit {limit}, marked {marked:?}");
+                    assert_eq!(pool.words(), before);
+                }
+            }
+        }
+    }
+    Ok(())
+}
+
+/// The accident of 5:04: the set is full, and the sender asks again and again. Nothing goes, and no word changes.
+#[test]
+fn a_full_set_sends_nothing() -> Result<(), Refused> {
+    for slots in (1..=20).chain([1023]) {
+        let mut pool = Pool::prepare(vec![0; Pool::words_for(slots)])?;
+        let most = pool.most_keys() as u32;
+        for resident in 0..most {
+            assert_eq!(may(&mut pool, Text { notice: 2, resident }, 1)?, May::Attempt(1), "{slots} slots, resident {resident}");
+        }
+        let full = pool.words().to_vec();
+        for _poll in 0..3 {
+            for resident in [0, most - 1, most, 8191] {
+                let told = resident < most;
+                assert_eq!(may(&mut pool, Text { notice: 2, resident }, 1)?, if told { May::AllUsed } else { May::NoRoom });
+                assert_eq!(may(&mut pool, Text { notice: 2, resident }, 7)?, May::NoRoom);
+                assert_eq!(may(&mut pool, Text { notice: 3, resident }, 1)?, May::NoRoom);
+            }
+            assert_eq!(pool.words(), full, "{slots} slots");
+        }
+        assert_eq!(pool.clear_notice(2)?, most);
+        assert_eq!(may(&mut pool, Text { notice: 3, resident: 8191 }, 1)?, May::Attempt(1));
+    }
+    Ok(())
+}
+
+/// Clearing takes attempts 1 to 7 of every resident of that notice, and nothing else: not attempt 0, no other notice, no other key.
+#[test]
+fn a_notice_is_cleared() -> Result<(), Refused> {
+    const ATTEMPTS: [u32; 4] = [0, 1, 3, 7];
+    let mut pool = Pool::prepare(vec![0; Pool::words_for(255)])?;
+    let residents = [0, 1, 77, 8190, 8191];
+    let texts: Vec<Text> =
+        [0, 1, 2, 3, 65_535].into_iter().flat_map(|notice| residents.map(|resident| Text { notice, resident })).collect();
+    for text in &texts {
+        ATTEMPTS.into_iter().for_each(|attempt| drop(mark(pool.insert(text.notice << 16 | text.resident << 3 | attempt).unwrap())));
+    }
+    assert_eq!(pool.clear_notice(2)?, 15, "three attempts of five residents");
+    assert_eq!(pool.keys()?, 85);
+    for &text in &texts {
+        let kept: &[u32] = if text.notice == 2 { &[0] } else { &ATTEMPTS };
+        assert_eq!(attempts(&mut pool, text), kept, "{text:?}");
+    }
+    pool.audit()?;
+    // none is left, and a second time there is nothing to do
+    let cleared = pool.words().to_vec();
+    assert_eq!((pool.clear_notice(2)?, pool.clear_notice(9)?), (0, 0));
+    assert_eq!(pool.words(), cleared);
+    // its count begins afresh, and no other notice's
+    for resident in residents {
+        assert_eq!(may(&mut pool, Text { notice: 2, resident }, 1)?, May::Attempt(1));
+        assert_eq!(may(&mut pool, Text { notice: 3, resident }, 1)?, May::AllUsed);
+    }
+    Ok(())
+}
+
+/// A failed send has no mark to withdraw: the next permit is the next attempt, and after the limit there is none.
+#[test]
+fn a_failed_send_uses_the_next_attempt() -> Result<(), Refused> {
+    let mut pool = Pool::prepare(vec![0; Pool::words_for(15)])?;
+    let text = Text { notice: 9, resident: 8 };
+    let mut tried = vec![];
+    for _poll in 0..9 {
+        match pool.may_send(text, 3)? {
+            MaySend::Yes(permit) => tried.push(permit.attempt()), // and its text fails
+            other => assert!(matches!(other, MaySend::AllUsed), "{other:?}"),
+        }
+    }
+    assert_eq!(tried, [1, 2, 3]);
+    assert_eq!(attempts(&mut pool, text), [1, 2, 3]);
+    Ok(())
+}
+
+/// Over restarts too: the marks that were saved count.
+#[test]
+fn the_limit_holds_over_restarts() -> Result<(), Refused> {
+    let text = Text { notice: 4411, resident: 12 };
+    let mut stored = vec![15, 0]; // an empty set of 15 slots
+    let mut texts = 0;
+    for _life in 0..9 {
+        let mut pool = Pool::load(vec![77; Pool::words_for(15)], &stored)?;
+        if let MaySend::Yes(permit) = pool.may_send(text, 4)? {
+            stored = pool.save(&mut [0; Pool::saved_bytes_for(15)])?.to_vec();
+            texts += 1;
+            assert_eq!(permit.attempt(), texts);
+        }
+    }
+    assert_eq!(texts, 4);
+    Ok(())
+}
+
+/// Every argument just outside its range, and far outside: refused, whatever the pool is, and no word changes.
+#[test]
+fn arguments_out_of_range() -> Result<(), Refused> {
+    let mut pool = Pool::prepare(vec![0; Pool::words_for(3)])?;
+    drop(permit(pool.may_send(Text { notice: 1, resident: 0 }, 1)?));
+    let before = pool.words().to_vec();
+    let bad = [(0, 0, 1), (65_536, 0, 1), (u32::MAX, 0, 1), (1, 8_192, 1), (1, u32::MAX, 1), (1, 0, 0), (1, 0, 8), (1, 0, u32::MAX)];
+    for (notice, resident, limit) in bad {
+        assert_eq!(may(&mut pool, Text { notice, resident }, limit), Err(Refused::OutOfRange), "{notice} {resident} {limit}");
+        assert_eq!(raw::may_send(&mut [], notice, resident, limit), 15 << 32);
+        assert_eq!(raw::may_send(&mut [5; 12], notice, resident, limit), 15 << 32);
+    }
+    for notice in [0, 65_536, u32::MAX] {
+        assert_eq!(pool.clear_notice(notice), Err(Refused::OutOfRange), "{notice}");
+        assert_eq!([raw::clear_notice(&mut [], notice), raw::clear_notice(&mut [5; 12], notice)], [15 << 32; 2]);
+    }
+    assert_eq!(pool.words(), before);
+    Ok(())
+}
+
+/// Code times 4,294,967,296 plus number, and the codes in their order: 15, 1, 2, 16, 7.
+#[test]
+fn raw_texts() {
+    let mut words = vec![0; Pool::words_for(3)]; // 2 marks
+    assert_eq!(raw::prepare(&mut words), 0);
+    assert_eq!([raw::may_send(&mut words, 65_535, 8191, 7), raw::may_send(&mut words, 65_535, 8191, 7)], [1, 2]);
+    let full = words.clone();
+    assert_eq!([raw::may_send(&mut words, 65_535, 8191, 2), raw::may_send(&mut words, 65_535, 8191, 3)], [16 << 32, 7 << 32]);
+    assert_eq!([raw::may_send(&mut words[1..], 65_535, 8191, 2), raw::clear_notice(&mut words[1..], 65_535)], [1 << 32; 2]);
+    words[3] = 1;
+    assert_eq!([raw::may_send(&mut words, 65_535, 8191, 2), raw::clear_notice(&mut words, 65_535)], [2 << 32; 2]);
+    words[3] = 0;
+    assert_eq!(words, full);
+    assert_eq!([raw::clear_notice(&mut words, 65_535), raw::clear_notice(&mut words, 65_535)], [2, 0]);
+}
+
 /// A resident process: it owns its pool, and hands it on.
 struct Resident {
     pool: Pool<Box<[u32]>>,
@@ -600,6 +804,7 @@ fn a_damaged_pool_answers_nothing() -> Result<(), Refused> {
     );
     assert!(matches!(pool.insert(1), Err(Refused::RulesBroken)));
     assert!(matches!(pool.run(&Batch::new()), Err(Refused::RulesBroken)));
+    assert_eq!((may(&mut pool, Text { notice: 1, resident: 0 }, 1), pool.clear_notice(1)), (Err(refused), Err(refused)));
     assert_eq!((pool.save(&mut [0; 39]), pool.most_saved_bytes()), (Err(refused), Err(refused)));
     #[cfg(feature = "std")]
     assert_eq!(pool.save_to_vec(), Err(refused));
@@ -643,10 +848,12 @@ fn codes_are_numbered() {
     let update = [Inserted::KEY_PRESENT, Searched::KEY_ABSENT, Inserted::NO_ROOM];
     let step = [Stepped::NO_INNER_NODE, Stepped::NO_KIND, Stepped::CONDITION_FALSE, Stepped::TOO_TALL];
     let saved = [Refused::BAD_SAVED, Refused::NO_FIT];
-    assert!([&call[..], &update, &step, &[Settled::BUDGET_SPENT], &saved].concat().into_iter().eq(1..=14));
+    let texts = [Refused::OUT_OF_RANGE, MaySend::ALL_USED];
+    assert!([&call[..], &update, &step, &[Settled::BUDGET_SPENT], &saved, &texts].concat().into_iter().eq(1..=16));
     let refused = [Refused::WrongLength, Refused::RulesBroken, Refused::BadCommand { wrong_at: 40 }, Refused::FewAnswers];
     assert_eq!(refused.map(|r| (r.code(), r.number())), [(1, 0), (2, 0), (3, 40), (4, 0)]);
-    assert_eq!([Refused::BadSaved { wrong_at: 41 }, Refused::NoFit].map(|r| (r.code(), r.number())), [(13, 41), (14, 0)]);
+    let later = [Refused::BadSaved { wrong_at: 41 }, Refused::NoFit, Refused::OutOfRange];
+    assert_eq!(later.map(|r| (r.code(), r.number())), [(13, 41), (14, 0), (15, 0)]);
 }
 
 #[test]
@@ -701,6 +908,11 @@ fn errors_are_errors() {
         "refused with code 14: it does not fit; to save, lend more room (Pool::saved_bytes_for gives enough); to load, lend words for as \
          many slots as were saved"
     );
+    assert_eq!(
+        Refused::OutOfRange.to_string(),
+        "refused with code 15: the notice is not from 1 to 65535, the resident not from 0 to 8191, or the limit not from 1 to 7; nothing \
+         was marked or cleared: send no text by it, and put the number right"
+    );
 }
 
 #[test]
@@ -714,6 +926,10 @@ fn public_types_are_shown() -> Result<(), Refused> {
     let mut answers = pool.run(&batch)?;
     assert_eq!(format!("{answers:?}"), "Answers { left: 1, to: [Insert { key: 7 }], .. }");
     assert_eq!(format!("{:?}", answers.next()), "Some(Insert { key: 7, answer: NewlyMarked(Mark { key: 7, slot: 1 }) })");
+    let text = Text { notice: 4411, resident: 12 };
+    assert_eq!(format!("{:?}", pool.may_send(text, 1)?), "Yes(Permit { text: Text { notice: 4411, resident: 12 }, attempt: 1 })");
+    assert_eq!(format!("{:?}", pool.may_send(text, 1)?), "AllUsed");
+    assert_eq!(pool.clear_notice(4411)?, 1);
     assert_eq!(format!("{pool:?}"), "Pool { slots: 9, .. }");
     assert_eq!(
         format!("{:?}", pool.report()?),

@@ -1,9 +1,9 @@
 //! Damaged pools: the library and the twin agree on what is broken, and nothing changes on a refusal.
 
-use crate::pair::{same_batch, same_on, Pair};
+use crate::pair::{same_batch, same_call, same_on, Pair};
 use crate::pools::{grown, some_keys, SHAPES, WEIGHTS};
 use crate::rng::Rng;
-use crate::twin::{Command, Set};
+use crate::twin::{Call, Command, Set};
 
 /// Pools small enough to try every word of.
 pub fn patients(rng: &mut Rng) -> Vec<Set> {
@@ -58,10 +58,15 @@ fn asked() -> Vec<u8> {
     Command::all(&commands)
 }
 
-/// All that can be asked of the words, and a batch on them. The audit's code.
+/// All that can be asked of the words, and a batch on them, and both calls of the ledger. The audit's code.
 fn examine(words: &[u32], bytes: &[u8]) -> u32 {
     let code = same_on(words);
     assert_eq!(same_batch(words, bytes, 20), (code, 0));
+    for call in [Call::MaySend { notice: 1, resident: 0, limit: 1 }, Call::Clear { notice: 1 }] {
+        let ((answered, _), _) = same_call(words, call);
+        // A sound pool may have no room.
+        assert!(answered == code || (code, answered) == (0, 7), "{call:?}");
+    }
     code
 }
 

@@ -1,10 +1,10 @@
-//! Pools made to hurt: shared subtrees, cycles, deep chains; and saved bytes made so. The audit, save and load stay linear
-//! and the stack small.
+//! Pools made to hurt: shared subtrees, cycles, deep chains; and saved bytes made so. The audit, save, load and may_send stay
+//! linear and the stack small.
 
-use crate::pair::{library_batch, library_load, library_save, same_on};
-use crate::pools::{deepest, Shape};
+use crate::pair::{library_batch, library_call, library_load, library_save, same_call, same_on};
+use crate::pools::{deepest, deepest_from, Shape};
 use crate::rng::Rng;
-use crate::twin::{self, write_number, Command, MOST_SLOTS};
+use crate::twin::{self, write_number, Call, Command, MOST_SLOTS};
 use chromatic::raw;
 use std::hint::black_box;
 use std::sync::mpsc::channel;
@@ -85,8 +85,17 @@ fn call_all(words: &[u32]) -> u32 {
     if code == 0 {
         assert_eq!(library_load(&mut pool, &out[..count as usize]), (0, words[2]));
     }
+    for call in [SEND, Call::Clear { notice: 1 }] {
+        let mut pool = words.to_vec();
+        let answered = library_call(&mut pool, call).0;
+        assert!(answered == code && (code == 0 || pool == words) || (code, answered) == (0, 7), "{call:?}");
+    }
     code
 }
+
+/// Of the least notice, so that its keys lie above all of the deepest trees, at the far end of a chain to the right; with the
+/// most searches.
+const SEND: Call = Call::MaySend { notice: 1, resident: 0, limit: 7 };
 
 /// No form has more bytes: two numbers of two bytes, and seven for each node.
 const LONGEST_FORM: usize = 4 + 7 * MOST_SLOTS;
@@ -113,6 +122,28 @@ fn the_deepest_sound_pools_fit_a_small_stack() {
     for shape in [Shape::ChainLeft, Shape::ChainRight, Shape::Zigzag] {
         let words = deepest(MOST_SLOTS, shape).words();
         assert_eq!(on_stack(SMALL_STACK, move || call_all(&words)), 0, "{shape:?}");
+    }
+}
+
+/// The deepest trees whose keys are all of one notice, from its first key on: seven of eight are marks. Their clearing is a
+/// delete for each, from the one end of the chain or the other.
+fn deepest_of_a_notice(slots: usize, shape: Shape) -> Vec<u32> {
+    deepest_from(65_536, slots, shape).words()
+}
+
+#[test]
+fn clearing_the_deepest_trees_fits_a_small_stack() {
+    let clear = Call::Clear { notice: 1 };
+    for shape in [Shape::ChainLeft, Shape::ChainRight, Shape::Zigzag] {
+        let words = deepest_of_a_notice(MOST_SLOTS, shape);
+        let (want, left) = same_call(&words, clear);
+        // 512 keys from attempt 0 on, of which 64 are no marks.
+        assert_eq!((want, left[2]), ((0, 448), 127), "{shape:?}");
+        let (answer, after) = on_stack(SMALL_STACK, move || {
+            let mut pool = words;
+            (library_call(&mut pool, clear), pool)
+        });
+        assert!(answer == want && after == left, "{shape:?}");
     }
 }
 
@@ -228,6 +259,28 @@ fn save_stays_linear() {
     }
 }
 
+/// Seven searches at the most, and an insert, beside the audit; a clearing that finds nothing is one descent. (One that finds
+/// marks is as many deletes, each of them a way down, so that in a chain it is a square, as those deletes are.)
+#[test]
+fn may_send_stays_linear() {
+    type Words = fn(usize) -> Vec<u32>;
+    // All are full, so that no call changes them: 7, and 16 where all attempts are marked.
+    let pools: [(&str, u32, Words); 3] = [
+        ("the deepest sound tree", 7, |slots| deepest(slots, Shape::ChainRight).words()),
+        ("the deepest tree of marks to the left", 16, |slots| deepest_of_a_notice(slots, Shape::ChainLeft)),
+        ("the deepest tree of marks to the right", 16, |slots| deepest_of_a_notice(slots, Shape::ChainRight)),
+    ];
+    for (name, code, words) in pools {
+        let mut pools = SIZES.map(words);
+        assert_linear(&format!("may_send on {name}"), "C", SIZES, |size| {
+            assert_eq!(library_call(black_box(&mut pools[size]), SEND), (code, 0));
+        });
+        assert_linear(&format!("clear_notice of nothing on {name}"), "C", SIZES, |size| {
+            assert_eq!(library_call(black_box(&mut pools[size]), Call::Clear { notice: 2 }), (0, 0));
+        });
+    }
+}
+
 #[test]
 fn load_stays_linear() {
     let mut words = SIZES.map(|slots| vec![7; 4 + 4 * slots]);
@@ -284,9 +337,9 @@ const LEVEL: f64 = (STACK_LATER / LEVELS_LATER) as f64;
 fn bytes_of_stack_for_each_level() {
     let smaller = MOST_SLOTS / 2;
     let levels = (MOST_SLOTS.div_ceil(2) - smaller.div_ceil(2)) as f64;
-    /// The call for so many slots, all that it needs made before.
-    type Call = fn(usize) -> Box<dyn Fn() + Send>;
-    let calls: [(&str, f64, Call); 7] = [
+    /// Makes the call for so many slots, all that it needs made before.
+    type Make = fn(usize) -> Box<dyn Fn() + Send>;
+    let calls: [(&str, f64, Make); 9] = [
         ("audit", LEVEL, |slots| {
             let words = deepest(slots, Shape::Zigzag).words();
             Box::new(move || assert_eq!(raw::audit(&words), 0))
@@ -307,6 +360,14 @@ fn bytes_of_stack_for_each_level() {
             let saved = deepest(slots, Shape::Zigzag).saved();
             Box::new(move || assert_eq!(library_load(&mut vec![7; 4 + 4 * slots], &saved).0, 0))
         }),
+        ("may_send", LEVEL, |slots| {
+            let words = deepest(slots, Shape::Zigzag).words();
+            Box::new(move || assert_eq!(library_call(&mut words.to_vec(), SEND), (7, 0)))
+        }),
+        ("clear_notice", LEVEL, |slots| {
+            let words = deepest_of_a_notice(slots, Shape::Zigzag);
+            Box::new(move || assert_ne!(library_call(&mut words.to_vec(), Call::Clear { notice: 1 }), (0, 0)))
+        }),
         ("audit of a damaged pool", LEVEL, |slots| {
             let (_, tangled) = tangles(slots).swap_remove(0);
             Box::new(move || assert_eq!(raw::audit(&tangled), 2))
@@ -317,8 +378,8 @@ fn bytes_of_stack_for_each_level() {
             Box::new(move || assert_eq!(library_load(&mut vec![7; 4 + 4 * slots], &saved).0, 13))
         }),
     ];
-    for (name, most, call) in calls {
-        let used = [smaller, MOST_SLOTS].map(|slots| stack_used(call(slots)));
+    for (name, most, make) in calls {
+        let used = [smaller, MOST_SLOTS].map(|slots| stack_used(make(slots)));
         let per_level = (used[1].saturating_sub(used[0])) as f64 / levels;
         let later = used[1] + (per_level * (LEVELS_LATER - MOST_SLOTS.div_ceil(2)) as f64) as usize;
         println!(

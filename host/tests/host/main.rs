@@ -7,6 +7,7 @@ mod api;
 mod causes;
 mod damage;
 mod hurtful;
+mod ledger;
 mod pair;
 mod places;
 mod pools;

@@ -1,6 +1,6 @@
 //! The library and the twin side by side.
 
-use crate::twin::{self, Answer, Command, Set};
+use crate::twin::{self, Answer, Call, Command, Set};
 use chromatic::raw;
 
 /// What answer words hold before a call.
@@ -56,6 +56,14 @@ pub fn library_save(pool: &[u32], out: &mut [u8]) -> Answer {
 /// Code and number of the library's load.
 pub fn library_load(pool: &mut [u32], saved: &[u8]) -> Answer {
     code_and_number(raw::load(pool, saved))
+}
+
+/// Code and number of the library's may_send or clear_notice.
+pub fn library_call(pool: &mut [u32], call: Call) -> Answer {
+    code_and_number(match call {
+        Call::MaySend { notice, resident, limit } => raw::may_send(pool, notice, resident, limit),
+        Call::Clear { notice } => raw::clear_notice(pool, notice),
+    })
 }
 
 /// Everything that can be asked of these words without changing them, by both; the audit's code.
@@ -131,6 +139,32 @@ pub fn same_load(words: &[u32], saved: &[u8]) -> (Answer, Vec<u32>) {
         assert!(pool == words, "a refused load of {saved:02X?} changed words");
     }
     (got, pool)
+}
+
+/// May_send or clear_notice by both on copies of the words; every word afterwards. What was answered, and the words.
+pub fn same_call(words: &[u32], call: Call) -> (Answer, Vec<u32>) {
+    let mut pool = Lent::of(words);
+    let got = library_call(pool.words(), call);
+    let pool = pool.back();
+    let mut twin_pool = words.to_vec();
+    let want = twin::call(&mut twin_pool, call);
+    assert_eq!(got, want, "{call:?} on {words:?}");
+    assert_eq!(pool, twin_pool, "pool after {call:?} on {words:?}");
+    assert_refusal_is_empty(call, got, words, &pool);
+    (got, pool)
+}
+
+/// "each gives 0 and changes nothing"
+fn assert_refusal_is_empty(call: Call, (code, number): Answer, before: &[u32], after: &[u32]) {
+    if code != 0 {
+        assert!(number == 0 && before == after, "{call:?} was refused with {code} and number {number}, or changed words");
+    }
+}
+
+/// How often each code was seen, those that were.
+pub fn by_code(codes: &[u64]) -> String {
+    let seen: Vec<String> = (0..).zip(codes).filter(|(_, &times)| times > 0).map(|(code, times)| format!("{code}: {times}")).collect();
+    seen.join(", ")
 }
 
 /// How often each answer was seen.
@@ -217,6 +251,27 @@ impl Pair {
         }
         self.audit();
         want
+    }
+
+    /// May_send or clear_notice, by both; then the audit.
+    pub fn call(&mut self, call: Call) -> Answer {
+        let before = self.words.clone();
+        let got = library_call(&mut self.words, call);
+        let want = self.twin.call(call);
+        assert_eq!(got, want, "{call:?} on {before:?}");
+        assert_eq!(self.words, self.twin.words(), "pool after {call:?} on {before:?}");
+        assert_refusal_is_empty(call, got, &before, &self.words);
+        self.audit();
+        want
+    }
+
+    /// Saved and read back by both, into words that mean nothing.
+    pub fn restart(&mut self) {
+        let (_, saved) = same_save(&self.words, 4 + 7 * self.twin.slots);
+        let (answer, words) = same_load(&vec![UNTOUCHED; self.words.len()], &saved);
+        assert_eq!(answer, (0, self.twin.nodes()), "load of {saved:02X?}");
+        let twin = twin::read(&words).expect("a sound pool");
+        *self = Pair::of(words, twin);
     }
 
     /// The same, counted.

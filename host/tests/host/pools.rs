@@ -104,6 +104,11 @@ pub fn some_keys(rng: &mut Rng, count: usize, highest: u32) -> Vec<u32> {
 
 /// A chain of the most keys that fit, every inner edge red: as deep as a sound tree gets.
 pub fn deepest(slots: usize, shape: Shape) -> Set {
-    let keys: Vec<u32> = (0..slots.div_ceil(2) as u32).collect();
+    deepest_from(0, slots, shape)
+}
+
+/// The same with other keys: so many from `first` on.
+pub fn deepest_from(first: u32, slots: usize, shape: Shape) -> Set {
+    let keys: Vec<u32> = (first..).take(slots.div_ceil(2)).collect();
     grown(&mut Rng::seeded("the deepest tree", 1), slots, &keys, 1, shape, Weights::Red)
 }

@@ -5,6 +5,7 @@ use crate::pools::{grown, some_keys, Weights, SHAPES, WEIGHTS};
 use crate::rng::Rng;
 use crate::twin::{write_number, Command, Set, MOST_SLOTS};
 use std::collections::HashSet;
+use std::ops::RangeInclusive;
 use std::time::Instant;
 
 /// How many times the usual work: `host/test soak N` sets it.
@@ -21,16 +22,22 @@ fn number_from(variable: &str, otherwise: u64) -> u64 {
     std::env::var(variable).map_or(otherwise, |n| n.parse().expect("a number"))
 }
 
+/// As many seeds from `first` on as the usual work, the soak and the share make.
+pub fn seeds(first: u64, usual: u64) -> RangeInclusive<u64> {
+    first..=first + (usual * soak()).div_ceil(share()) - 1
+}
+
 /// Runs `once` for seeds from `first` on, and says how much was compared.
-fn compared(test: &str, first: u64, seeds: u64, mut once: impl FnMut(&mut Rng, &mut Seen)) -> Seen {
+fn compared(test: &str, first: u64, usual: u64, mut once: impl FnMut(&mut Rng, &mut Seen)) -> Seen {
     let begun = Instant::now();
     let mut seen = Seen::default();
-    let seeds = (seeds * soak()).div_ceil(share());
-    for seed in first..first + seeds {
+    let seeds = seeds(first, usual);
+    let last = *seeds.end();
+    for seed in seeds {
         once(&mut Rng::seeded(test, seed), &mut seen);
     }
     let (commands, steps, seconds) = (seen.commands, seen.settle_steps, begun.elapsed().as_secs_f64());
-    println!("compared {commands} commands ({steps} steps of settle) in {test}, seeds {first} to {}, {seconds:.1} s", first + seeds - 1);
+    println!("compared {commands} commands ({steps} steps of settle) in {test}, seeds {first} to {last}, {seconds:.1} s");
     seen
 }
 
@@ -44,7 +51,7 @@ fn key(rng: &mut Rng, span: u32) -> u32 {
 }
 
 /// Half of the steps are allowed ones, where there are any; many of the others stand at the root, where 11 is.
-fn step(rng: &mut Rng, set: &Set) -> Command {
+pub fn step(rng: &mut Rng, set: &Set) -> Command {
     let allowed = if rng.one_in(2) { set.allowed() } else { vec![] };
     let (slot, kind) = match rng.below(8) {
         _ if !allowed.is_empty() => rng.pick(&allowed),
@@ -127,28 +134,36 @@ fn small_pools_one_command_at_a_time() {
     assert!(share() > 1 || kinds[1..].iter().all(|&k| k > 100), "each kind is accepted");
 }
 
-/// Every pool that commands lead to from an empty one of few slots and keys, and on each of them every command.
-fn every_pool(slots: usize, keys: &[u32]) {
-    let mut commands: Vec<Command> = (0..=slots as u32 + 1).flat_map(|s| (0..=9).map(move |k| Command::Step(s, k))).collect();
-    commands.extend([0, 1, u32::MAX].map(Command::Settle));
-    commands.extend(keys.iter().flat_map(|&key| [Command::Search(key), Command::Insert(key), Command::Delete(key)]));
+/// Every pool that moves lead to from an empty one of few slots, and on each of them every move. How many pools those are.
+pub fn every_reached<M: Copy>(slots: usize, moves: &[M], mut run: impl FnMut(&mut Pair, M)) -> usize {
     let mut reached = HashSet::new();
     let mut ahead = vec![Pair::prepared(slots)];
-    let mut seen = Seen::default();
     while let Some(pair) = ahead.pop() {
         if !reached.insert(pair.words.clone()) {
             continue;
         }
         pair.look();
-        for &command in &commands {
+        for &one in moves {
             let mut next = pair.clone();
-            next.run_seen(command, &mut seen);
+            run(&mut next, one);
             if next.words != pair.words {
                 ahead.push(next);
             }
         }
     }
-    let (all, pools, keys) = (seen.commands, reached.len(), keys.len());
+    reached.len()
+}
+
+/// Every pool that commands lead to from an empty one of few slots and keys, and on each of them every command.
+fn every_pool(slots: usize, keys: &[u32]) {
+    let mut commands: Vec<Command> = (0..=slots as u32 + 1).flat_map(|s| (0..=9).map(move |k| Command::Step(s, k))).collect();
+    commands.extend([0, 1, u32::MAX].map(Command::Settle));
+    commands.extend(keys.iter().flat_map(|&key| [Command::Search(key), Command::Insert(key), Command::Delete(key)]));
+    let mut seen = Seen::default();
+    let pools = every_reached(slots, &commands, |pair, command| {
+        pair.run_seen(command, &mut seen);
+    });
+    let (all, keys) = (seen.commands, keys.len());
     println!("compared {all} commands: each of {} on each of the {pools} pools of {slots} slots and {keys} keys", commands.len());
 }
 

@@ -2,9 +2,9 @@
 
 use crate::causes::{cause, CAUSES};
 use crate::damage;
-use crate::pair::{library_batch, same_load, same_on, same_save};
+use crate::pair::{by_code, library_batch, same_load, same_on, same_save};
 use crate::pools::{deepest, grown, some_keys, Shape, Weights, SHAPES, WEIGHTS};
-use crate::random::{share, soak};
+use crate::random::{seeds, share};
 use crate::rng::Rng;
 use crate::twin::{self, write_number, Answer, Command, Edge, Set, MOST_SLOTS};
 use chromatic::raw;
@@ -37,20 +37,16 @@ fn compared(test: &str, all: impl FnOnce(&mut Seen)) -> Seen {
     let begun = Instant::now();
     let mut seen = Seen::default();
     all(&mut seen);
-    let by_code = |codes: &[u64; 15]| {
-        let seen: Vec<String> = (0..15).filter(|&code| codes[code] > 0).map(|code| format!("{code}: {}", codes[code])).collect();
-        seen.join(", ")
-    };
     let seconds = begun.elapsed().as_secs_f64();
     println!("compared saves by code ({}) and loads ({}) in {test}, {seconds:.1} s", by_code(&seen.saves), by_code(&seen.loads));
     seen
 }
 
 /// Runs `once` for seeds from `first` on.
-fn seeded(test: &str, first: u64, seeds: u64, mut once: impl FnMut(&mut Rng, &mut Seen)) -> Seen {
-    let seeds = (seeds * soak()).div_ceil(share());
-    compared(&format!("{test}, seeds {first} to {}", first + seeds - 1), |seen| {
-        (first..first + seeds).for_each(|seed| once(&mut Rng::seeded(test, seed), seen));
+fn seeded(test: &str, first: u64, usual: u64, mut once: impl FnMut(&mut Rng, &mut Seen)) -> Seen {
+    let seeds = seeds(first, usual);
+    compared(&format!("{test}, seeds {first} to {}", seeds.end()), |seen| {
+        seeds.for_each(|seed| once(&mut Rng::seeded(test, seed), seen));
     })
 }
 

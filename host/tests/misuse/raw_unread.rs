@@ -10,6 +10,8 @@ pub fn tell(pool: &mut [u32], bytes: &[u8], answers: &mut [u32], out: &mut [u8])
     raw::batch(pool, bytes, answers); // FAULT
     raw::save(pool, out); // FAULT
     raw::load(pool, bytes); // FAULT
+    raw::may_send(pool, 1, 0, 1); // FAULT
+    raw::clear_notice(pool, 1); // FAULT
     raw::interface(); // FAULT
     raw::save(pool, out) + raw::batch(pool, bytes, answers)
 }

@@ -5,7 +5,7 @@ use chromatic::{Answer, Command, Deleted, Refused, Searched, Settled, Stepped};
 
 pub fn refusal(refused: Refused) -> u32 {
     match refused {
-        Refused::WrongLength | Refused::RulesBroken | Refused::FewAnswers | Refused::NoFit => 0,
+        Refused::WrongLength | Refused::RulesBroken | Refused::FewAnswers | Refused::NoFit | Refused::OutOfRange => 0,
         Refused::BadCommand { wrong_at } | Refused::BadSaved { wrong_at } => wrong_at,
         // MENDED _ => 0,
     }

@@ -114,9 +114,18 @@ fn race(sets: &mut [Box<dyn Set>], home: &Work, race: Race) {
 
 /// What only pools have, in nanoseconds a call.
 fn race_pools(what: &str, sets: &mut [Box<dyn Set>], call: fn(&mut dyn Set) -> u64) {
+    race_calls(what, sets, |_| (), call);
+}
+
+/// The same with something before each call that is not timed.
+fn race_calls(what: &str, sets: &mut [Box<dyn Set>], before: impl Fn(&mut dyn Set), call: impl Fn(&mut dyn Set) -> u64) {
     let mut pools: Vec<_> = sets.iter_mut().filter(|set| set.pooled().is_some()).map(|set| (set, vec![])).collect();
+    let sample = |set: &mut dyn Set| {
+        before(set);
+        clocked(set, &call)
+    };
     for _ in 0..SPELLS {
-        pools.iter_mut().for_each(|(set, samples)| spell(samples, || clocked(set.as_mut(), |set| call(set))));
+        pools.iter_mut().for_each(|(set, samples)| spell(samples, || sample(set.as_mut())));
     }
     let times: Vec<_> = pools.iter_mut().map(|(set, samples)| (set.name(), typical(samples))).collect();
     line(what, &times);
@@ -206,23 +215,90 @@ fn table(count: usize) {
     race_pools("audit, a call", &mut sets, |set| set.pooled().map_or(0, |p| u64::from((p.audit)(black_box(&p.words)))));
     race_pools("report's seventh number, a call", &mut sets, |set| set.pooled().map_or(0, |p| (p.report)(black_box(&p.words), 7)));
     saved_rows(&keys);
+    ledger_rows(&mut rng, count);
+}
+
+/// Both pools with these keys, inserted in this order and settled.
+fn settled_pools(keys: &[u32]) -> Vec<Box<dyn Set>> {
+    let mut sets = pools(SLOTS);
+    let (fill, settle) = (Work::new(each(keys, insert), 256), Work::new(vec![Command::Settle { budget: u32::MAX }], 1));
+    for set in sets.iter_mut() {
+        assert_eq!(set.run(&fill), keys.len() as u64, "{}", set.name());
+        set.run(&settle);
+    }
+    sets
 }
 
 /// Save and load, of as many keys as the table has, each key and router five bytes long.
 fn saved_rows(keys: &[u32]) {
     let longest: Vec<u32> = keys.iter().map(|&key| key | 1 << 28).collect();
-    let mut sets = pools(SLOTS);
-    let (fill, settle) = (Work::new(each(&longest, insert), 256), Work::new(vec![Command::Settle { budget: u32::MAX }], 1));
-    for set in sets.iter_mut() {
-        assert_eq!(set.run(&fill), keys.len() as u64, "{}", set.name());
-        set.run(&settle);
-    }
+    let mut sets = settled_pools(&longest);
     let bytes: Vec<u64> = sets.iter_mut().map(|set| set.save()).collect();
     race_pools(&format!("save, a call, {} bytes", bytes[0]), &mut sets, |set| set.save());
     race_pools(&format!("load, a call, {} bytes", bytes[0]), &mut sets, |set| set.load());
     let nodes: Vec<u64> = sets.iter_mut().map(|set| set.load()).collect();
     let all = 2 * keys.len() as u64 - 1;
     assert!(bytes == [bytes[0]; 2] && nodes == [all; 2], "the contestants do not agree: {bytes:?}, {nodes:?}");
+}
+
+/// The notice of the ledger's rows, and residents of whom none, six and all seven attempts are marked.
+const NOTICE: u32 = 4411;
+const FRESH: u32 = 700;
+const ONE_LEFT: u32 = 701;
+const ALL_USED: u32 = 702;
+
+fn mark(notice: u32, resident: u32, attempt: u32) -> u32 {
+    notice * 65_536 + resident * 8 + attempt
+}
+
+/// First attempts of twenty other notices, as many before as after.
+fn marks_of_others(count: usize) -> Vec<u32> {
+    let notice = |i: u32| if i % 2 == 0 { NOTICE - 1 - i % 20 / 2 } else { NOTICE + 1 + i % 20 / 2 };
+    (0..count as u32).map(|i| mark(notice(i), i / 20 * 37, 1)).collect()
+}
+
+/// A call of the ledger, by the name of its row, and what it must answer.
+struct Asked<'a> {
+    what: &'a str,
+    call: &'a dyn Fn(&mut dyn Set) -> u64,
+    want: u64,
+}
+
+/// Times each call, all told, on the pools of these keys as they are before it: neither call settles, and both change them.
+fn race_ledger(keys: &[u32], asked: &[Asked]) {
+    let mut sets = settled_pools(keys);
+    sets.iter_mut().for_each(|set| set.keep());
+    for Asked { what, call, want } in asked {
+        race_calls(&format!("{what}, a call"), &mut sets, |set| set.restore(), call);
+        for set in sets.iter_mut() {
+            set.restore();
+            assert_eq!(call(set.as_mut()), *want, "{what}: {}", set.name());
+        }
+    }
+}
+
+/// May_send and clear_notice, of as many keys as the table has.
+fn ledger_rows(rng: &mut Rng, count: usize) {
+    let mut among_others = |mine: Vec<u32>, most: usize| {
+        let others = marks_of_others(most - mine.len());
+        rng.shuffled(&[mine, others].concat())
+    };
+    let marked = |resident, attempts| (1..=attempts).map(move |attempt| mark(NOTICE, resident, attempt));
+    // One key fewer than the table has: 512 fill the pool, which then takes no mark.
+    let keys = among_others(marked(ONE_LEFT, 6).chain(marked(ALL_USED, 7)).collect(), count - 1);
+    race_ledger(
+        &keys,
+        &[
+            Asked { what: "may_send, a new mark", call: &|set| set.may_send(NOTICE, FRESH, 1), want: 1 },
+            Asked { what: "may_send, limit 7, six marked", call: &|set| set.may_send(NOTICE, ONE_LEFT, 7), want: 7 },
+            Asked { what: "may_send, limit 7, all used", call: &|set| set.may_send(NOTICE, ALL_USED, 7), want: 16 << 32 },
+        ],
+    );
+    for marks in [0, 1, 16, 256].into_iter().filter(|&marks| marks < count) {
+        let keys = among_others((0..marks as u32).map(|i| mark(NOTICE, 31 * i, 1)).collect(), count);
+        let what = format!("clear_notice, {marks} of {count} keys");
+        race_ledger(&keys, &[Asked { what: &what, call: &|set| set.clear_notice(NOTICE), want: marks as u64 }]);
+    }
 }
 
 fn main() {

@@ -73,6 +73,13 @@ pub trait Set {
     fn load(&mut self) -> u64 {
         unreachable!("{} is not loaded", self.name())
     }
+    /// Asks whether a text may go, and marks it. Of a pool only, as the next.
+    fn may_send(&mut self, _notice: u32, _resident: u32, _limit: u32) -> u64 {
+        unreachable!("{} is no ledger", self.name())
+    }
+    fn clear_notice(&mut self, _notice: u32) -> u64 {
+        unreachable!("{} is no ledger", self.name())
+    }
 }
 
 /// A pool and the functions that work on it: the library's or the cousin's.
@@ -85,30 +92,31 @@ pub struct Pooled {
     batch: fn(&mut [u32], &[u8], &mut [u32]) -> u64,
     save: fn(&[u32], &mut [u8]) -> u64,
     load: fn(&mut [u32], &[u8]) -> u64,
+    may_send: fn(&mut [u32], u32, u32, u32) -> u64,
+    clear_notice: fn(&mut [u32], u32) -> u64,
     /// Room for any form, and the bytes saved last at its beginning.
     room: Vec<u8>,
     saved: usize,
 }
 
-impl Pooled {
-    fn prepared(name: &'static str, slots: usize, prepare: fn(&mut [u32]) -> u32) -> Vec<u32> {
-        let mut words = vec![0; chromatic::Pool::words_for(slots)];
-        assert_eq!(prepare(&mut words), 0, "{name}");
-        words
-    }
+/// An empty pool over the functions of one crate, the library's or the cousin's.
+macro_rules! pooled {
+    ($name:literal, $slots:ident, $($from:ident)::+) => {{
+        use $($from)::+::{audit, batch, clear_notice, load, may_send, prepare, report, save};
+        let mut words = vec![0; chromatic::Pool::words_for($slots)];
+        assert_eq!(prepare(&mut words), 0, $name);
+        let room = vec![0; chromatic::Pool::saved_bytes_for($slots)];
+        Pooled { name: $name, words, kept: vec![], audit, report, batch, save, load, may_send, clear_notice, room, saved: 0 }
+    }};
+}
 
+impl Pooled {
     pub fn library(slots: usize) -> Pooled {
-        use chromatic::raw::{audit, batch, load, prepare, report, save};
-        let name = "library";
-        let words = Pooled::prepared(name, slots, prepare);
-        Pooled { name, words, kept: vec![], audit, report, batch, save, load, room: vec![0; 4 + 7 * slots], saved: 0 }
+        pooled!("library", slots, chromatic::raw)
     }
 
     pub fn cousin(slots: usize) -> Pooled {
-        use cousin::{audit, batch, load, prepare, report, save};
-        let name = "cousin";
-        let words = Pooled::prepared(name, slots, prepare);
-        Pooled { name, words, kept: vec![], audit, report, batch, save, load, room: vec![0; 4 + 7 * slots], saved: 0 }
+        pooled!("cousin", slots, cousin)
     }
 }
 
@@ -147,6 +155,14 @@ impl Set for Pooled {
 
     fn load(&mut self) -> u64 {
         (self.load)(&mut self.words, black_box(&self.room[..self.saved]))
+    }
+
+    fn may_send(&mut self, notice: u32, resident: u32, limit: u32) -> u64 {
+        (self.may_send)(&mut self.words, notice, resident, limit)
+    }
+
+    fn clear_notice(&mut self, notice: u32) -> u64 {
+        (self.clear_notice)(&mut self.words, notice)
     }
 }
 

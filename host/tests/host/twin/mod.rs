@@ -4,11 +4,13 @@
 mod audit;
 mod bytes;
 mod figures;
+mod ledger;
 mod saved;
 mod steps;
 
 pub use audit::{audit, read};
 pub use bytes::{commands, write_number, Command};
+pub use ledger::{call, Call, Parts, LIMITS, NOTICES, RESIDENTS};
 pub use saved::{load, save};
 
 /// "Slots are numbered from 1", "C from 1 to 1,023".
