@@ -1,6 +1,6 @@
 -- What a batch call leaves of a pool that passes the audit: all as it was and nothing in the log, or what its commands leave of the
--- State, with their entries in the log (`call-result`). Either way the pool passes the audit, and so it does after any number of calls
--- (`calls-passing`). Behind Ends.antt, History.antt and StepsInBatches.antt. Assumes nothing.
+-- State, with their entries in the log (`call-result`). Either way the pool passes the audit, and so it does after any number of calls of
+-- every sort (`calls-passing`). Behind Ends.antt, History.antt and StepsInBatches.antt. Assumes nothing.
 use mathlib.Core.Path.{_≡_, refl, ap, sym, _∙_}
 use mathlib.Core.Logic.{_≢_}
 use mathlib.Core.List.{List, []}
@@ -13,11 +13,13 @@ use Rattle.format.specs.Audit.{stateOf}
 use Rattle.encoding.specs.Batch.{commands, readBatch, runAll, Call, called, refused, batch}
 use Rattle.format.proofs.Shown.{shows-words}
 use Rattle.set.specs.Set.{Passing}
-use Rattle.set.proofs.Passing.{passing, passing-state}
+use Rattle.set.proofs.Passing.{passing, passing-state, passing-words}
+use Rattle.ledger.proofs.Sending.{send-passing}
+use Rattle.ledger.proofs.Clearing.{clear-passing}
 use Rattle.encoding.specs.Numbers.{Bytes}
 use Rattle.encoding.proofs.Endings.{Ending, length-refused, bad-command, few-answers, rules-refused, ran, ending}
 use Rattle.encoding.proofs.Performs.{AllSmall, run-sound}
-use Rattle.demands.specs.Calls.{Entry, logOf, Calls, no-call, then-call, then-restart}
+use Rattle.demands.specs.Calls.{Entry, logOf, Calls, no-call, then-call, then-restart, then-send, then-clear}
 use Rattle.commands.proofs.Running.{read-small}
 use Rattle.demands.proofs.Runs.{entriesOf, log-none, log-ran}
 use Rattle.demands.proofs.Restarting.{restart-passing}
@@ -83,3 +85,5 @@ pub calls-passing : {p q : List ℕ} {log : List Entry} → Passing p → Calls 
 calls-passing g no-call = g
 calls-passing g (then-call before bytes out b) = call-passing (calls-passing g before) bytes out b
 calls-passing g (then-restart before R) = restart-passing (calls-passing g before) R
+calls-passing g (then-send {q = q} before n r l) = let h = calls-passing g before in send-passing q n r l (passing-words h) h
+calls-passing g (then-clear {q = q} before n) = let h = calls-passing g before in clear-passing q n (passing-words h) h

@@ -1,21 +1,22 @@
 -- Demand 2's last sentence. From any empty pool that passes the audit, a prepared one (`history-prepared`) or another, and after any
--- number of batch calls, with any bytes and any answer words, refused calls, steps and settles among them, the set has exactly the keys
--- that were inserted with code 0 and not since deleted with code 0 (`history`, `history-keys`); search finds exactly those
--- (`history-search`), and so does a search command anywhere in a further call (`search-tells`). From any pool that passes the audit it
--- has these, and of the keys that were there those not since deleted with code 0 (`history-from`, `history-from-keys`, and so on).
+-- number of batch calls, with any bytes and any answer words, and calls of the send limit, with any arguments, refused calls, steps and
+-- settles among them, the set has exactly the keys that were inserted with code 0 and not since deleted with code 0 (`history`,
+-- `history-keys`): by commands, by a yes, which inserts its mark, and by a clearing, which deletes its notice's marks. Search finds exactly
+-- those (`history-search`), and so does a search command anywhere in a further call (`search-tells`). From any pool that passes the audit
+-- it has these, and of the keys that were there those not since deleted with code 0 (`history-from`, `history-from-keys`, and so on).
 -- Restarts may come between the calls: they move no key.
--- Why: an insert with code 0 adds its key and no other, a delete with code 0 takes its key and no other, and nothing else moves a key
--- (crate tree); so after each command the set is what the log tells. Assumes nothing.
+-- Why: an insert with code 0 adds its key and no other, a delete with code 0 takes its key and no other (crate tree), a yes and a clearing
+-- do so with marks (crate ledger), and nothing else moves a key; so after each entry the set is what the log tells. Assumes nothing.
 use mathlib.Core.Path.{_≡_, refl, ap, sym, _∙_}
 use mathlib.Core.Logic.{_↔_, _≢_, inl, inr}
-use mathlib.Core.Bool.{Bool, true, false}
+use mathlib.Core.Bool.{Bool, true, false, false≢true, and-false}
 use mathlib.Core.List.{List, [], _∷_, _++_}
 use lib.ListN.{length, getD}
+use borrow.Author.Tests.{eq-eqb, ne-eqb}
 use native.Mathlib.Omega.{arith}
 use Prim.Native.Nat.{ℕ, _*_}
 use Rattle.tree.specs.declared.Answer.{Answer}
-use Rattle.tree.specs.declared.Answer.the-variants.{Done}
-use Rattle.tree.specs.Codes.{codeOf}
+use Rattle.tree.specs.Codes.{codeOf, numberOf}
 use Rattle.tree.specs.Tree.{countIn}
 use Rattle.tree.specs.State.{State, isIn, Sound, Outcome, search, step}
 use Rattle.tree.specs.Settle.{settle}
@@ -35,11 +36,16 @@ use Rattle.pool.specs.Results.{prepareCode, preparedWords}
 use Rattle.updates.specs.Updating.{searchAnswer}
 use Rattle.set.specs.Set.{Passing, member}
 use Rattle.tree.proofs.Moves.{settle-keeps-keys}
+use Rattle.ledger.specs.Ledger.{markKey, maySend, clearNotice}
+use Rattle.ledger.specs.Sends.{Sent, Cleaned}
+use Rattle.ledger.specs.Sequences.{sendCall, clearCall}
+use Rattle.ledger.proofs.Sending.{send-says, send-refused}
+use Rattle.ledger.proofs.Clearing.{clear-says, clear-refused}
 use Rattle.set.proofs.Members.{member-shown}
 use Rattle.set.proofs.Passing.{passing-state}
-use Rattle.set.proofs.Promises.{nodes-exact, empty-says, prepare-passing, prepare-says, search-codes}
-use Rattle.demands.specs.Calls.{Entry, entries, logOf, Calls, no-call, then-call, then-restart, tells, toldFrom, told, InsertedSince, KeptOrInserted, SearchTells}
-use Rattle.demands.proofs.Told.{other-operation, other-key, other-code, tells-insert, tells-delete, told-append, told-from-exactly, told-exactly}
+use Rattle.set.proofs.Promises.{passing-words, more-here, more-elsewhere, nodes-exact, empty-says, prepare-passing, prepare-says, search-codes}
+use Rattle.demands.specs.Calls.{Entry, of-ledger, entries, logOf, Calls, no-call, then-call, then-restart, then-send, then-clear, isMark, puts, takes, tells, toldFrom, told, InsertedSince, KeptOrInserted, SearchTells}
+use Rattle.demands.proofs.Told.{tells-kept, tells-put, tells-taken, other-operation, other-key, other-code, tells-insert, tells-delete, is-mark, told-append, told-from-exactly, told-exactly}
 use Rattle.demands.proofs.Runs.{entry, entriesOf}
 use Rattle.demands.proofs.Called.{Result, call-kept, call-did, call-result, call-ran, calls-passing}
 use Rattle.demands.proofs.Ends.{command-words}
@@ -48,17 +54,17 @@ use Rattle.demands.proofs.Restarting.{restart-keys}
 -- One command: what is in the set after it is what its entry tells.
 module _ (x : ℕ) (c : Command) (S : State) (sound : Sound S) where
   insert-told : {o : Outcome} → c .operation ≡ Insert → InsertSays (c .first) S o → isIn x (o .after) ≡ tells x (entry c (o .answer)) (isIn x S)
-  insert-told op (present i) = sym (other-code x _ (isIn x S) (λ z. omega arith))
-  insert-told op (no-room i h) = sym (other-code x _ (isIn x S) (λ z. omega arith))
+  insert-told op (present i) = sym (other-code x c _ _ (isIn x S) (λ z. omega arith))
+  insert-told op (no-room i h) = sym (other-code x c _ _ (isIn x S) (λ z. omega arith))
   insert-told op (added {s} i h k f) = same-or-not (c .first) x
-      (λ e. let z : isIn x S ≡ 0 = rw e at i in omega (arith, k x, one-same x (c .first) (sym e), tells-insert x (entry c (Done s)) (isIn x S) op e refl))
-      (λ n. omega (arith, k x, one-other x (c .first) (λ e. n (sym e)), other-key x (entry c (Done s)) (isIn x S) n))
+      (λ e. let z : isIn x S ≡ 0 = rw e at i in omega (arith, k x, one-same x (c .first) (sym e), tells-insert x c 0 s (isIn x S) op e refl))
+      (λ n. omega (arith, k x, one-other x (c .first) (λ e. n (sym e)), other-key x c 0 s (isIn x S) n))
 
   delete-told : {o : Outcome} → c .operation ≡ Delete → DeleteSays (c .first) S o → isIn x (o .after) ≡ tells x (entry c (o .answer)) (isIn x S)
-  delete-told op (absent i) = sym (other-code x _ (isIn x S) (λ z. omega arith))
+  delete-told op (absent i) = sym (other-code x c _ _ (isIn x S) (λ z. omega arith))
   delete-told op (removed {n = m} i l k) = same-or-not (c .first) x
-      (λ e. let z : isIn x S ≡ 1 = rw e at i in omega (arith, k x, one-same x (c .first) (sym e), tells-delete x (entry c (Done m)) (isIn x S) op e refl))
-      (λ n. omega (arith, k x, one-other x (c .first) (λ e. n (sym e)), other-key x (entry c (Done m)) (isIn x S) n))
+      (λ e. let z : isIn x S ≡ 1 = rw e at i in omega (arith, k x, one-same x (c .first) (sym e), tells-delete x c 0 m (isIn x S) op e refl))
+      (λ n. omega (arith, k x, one-other x (c .first) (λ e. n (sym e)), other-key x c 0 m (isIn x S) n))
 
   perform-told : isIn x ((perform c S) .after) ≡ tells x (entry c ((perform c S) .answer)) (isIn x S)
   unfolding perform operation
@@ -69,7 +75,7 @@ module _ (x : ℕ) (c : Command) (S : State) (sound : Sound S) where
           → n ≡ isIn x S → n ≡ tells x (entry c a) (isIn x S)
       same o e f g a h =
           let number = ap operationNumber e in
-          h ∙ sym (other-operation x _ (isIn x S) (λ z. f (sym number ∙ z)) (λ z. g (sym number ∙ z)))
+          h ∙ sym (other-operation x c _ _ (isIn x S) (λ z. f (sym number ∙ z)) (λ z. g (sym number ∙ z)))
 
       go : (o : Operation) → c .operation ≡ o
           → isIn x ((operation o (c .first) (c .second) S) .after) ≡ tells x (entry c ((operation o (c .first) (c .second) S) .answer)) (isIn x S)
@@ -105,6 +111,57 @@ call-told {p} g bytes out b x = go (call-result g bytes out b)
     go (call-did {cs} z f r) =
         rw (r .log-is, member-state g x) (member-shown (r .sound-after) (r .shows-after) x ∙ run-told x cs (stateOf p) (r .small) (r .sound))
 
+-- One call of the send limit: a yes marks its key, a clearing takes its notice's marks, and a refusal moves nothing.
+module _ {p : List ℕ} (g : Passing p) (n r l x : ℕ) where
+  abbrev sent : Entry
+  sent = of-ledger (sendCall p n r l)
+
+  abbrev key : ℕ
+  key = markKey n r (numberOf ((maySend p n r l) .answer))
+
+  send-kept : puts x sent ≡ false → tells x sent (member x p) ≡ member x p
+  unfolding takes
+  send-kept f = tells-kept x sent (member x p) f refl
+
+  yes-told : Sent p n r l (numberOf ((maySend p n r l) .answer)) ((maySend p n r l) .left) → codeOf ((maySend p n r l) .answer) ≡ 0
+      → member x ((maySend p n r l) .left) ≡ tells x sent (member x p)
+  unfolding puts
+  yes-told s z = same-or-not key x
+      (λ e. rw e at here ∙ sym (tells-put x sent (member x p) (rw (eq-eqb _ _ e, eq-eqb _ _ z))))
+      (λ d. more-elsewhere (s .one-more) x (λ e. d (sym e)) ∙ sym (send-kept (rw (ne-eqb _ _ d))))
+    where
+      here : member key ((maySend p n r l) .left) ≡ 1
+      here = omega (arith, more-here (s .one-more), s .attempt-is .unmarked)
+
+  send-told : member x ((maySend p n r l) .left) ≡ tells x sent (member x p)
+  unfolding puts
+  send-told = same-or-not (codeOf ((maySend p n r l) .answer)) 0
+      (λ z. yes-told (send-says p n r l (passing-words g) z) z)
+      (λ d. ap (member x) (send-refused p n r l (passing-words g) d .1) ∙ sym (send-kept (rw (ne-eqb _ _ d, and-false))))
+
+module _ {p : List ℕ} (g : Passing p) (n x : ℕ) where
+  abbrev cleared : Entry
+  cleared = of-ledger (clearCall p n)
+
+  clear-kept : takes x cleared ≡ false → tells x cleared (member x p) ≡ member x p
+  unfolding puts
+  clear-kept f = tells-kept x cleared (member x p) refl f
+
+  done-told : {c : ℕ} → Cleaned p n c ((clearNotice p n) .left) → codeOf ((clearNotice p n) .answer) ≡ 0
+      → member x ((clearNotice p n) .left) ≡ tells x cleared (member x p)
+  unfolding puts takes
+  done-told s z = go (isMark n x) refl
+    where
+      go : (b : Bool) → isMark n x ≡ b → member x ((clearNotice p n) .left) ≡ tells x cleared (member x p)
+      go true e = s .none-left x (is-mark n x .0 e) ∙ sym (tells-taken x cleared (member x p) refl (rw (e, eq-eqb _ _ z)))
+      go false e = s .others-stay x (λ m. false≢true (sym e ∙ is-mark n x .1 m)) ∙ sym (clear-kept (rw e))
+
+  clear-told : member x ((clearNotice p n) .left) ≡ tells x cleared (member x p)
+  unfolding takes
+  clear-told = same-or-not (codeOf ((clearNotice p n) .answer)) 0
+      (λ z. done-told (clear-says p n (passing-words g) z) z)
+      (λ d. ap (member x) (clear-refused p n (passing-words g) d .1) ∙ sym (clear-kept (rw (ne-eqb _ _ d, and-false))))
+
 -- Any number of calls.
 calls-told : {p q : List ℕ} {log : List Entry} → Passing p → Calls p log q → (x : ℕ) → member x q ≡ toldFrom x (member x p) log
 unfolding toldFrom
@@ -113,6 +170,12 @@ calls-told {p} g (then-call {log} {q} calls bytes out b) x =
     call-told (calls-passing g calls) bytes out b x
     ∙ (ap (λ (n : ℕ). toldFrom x n (logOf q bytes out)) (calls-told g calls x) ∙ sym (told-append x (member x p) log (logOf q bytes out)))
 calls-told g (then-restart calls R) x = restart-keys (calls-passing g calls) R x ∙ calls-told g calls x
+calls-told {p} g (then-send {log} {q} calls n r l) x =
+    send-told (calls-passing g calls) n r l x
+    ∙ (ap (tells x (of-ledger (sendCall q n r l))) (calls-told g calls x) ∙ sym (told-append x (member x p) log (of-ledger (sendCall q n r l) ∷ [])))
+calls-told {p} g (then-clear {log} {q} calls n) x =
+    clear-told (calls-passing g calls) n x
+    ∙ (ap (tells x (of-ledger (clearCall q n))) (calls-told g calls x) ∙ sym (told-append x (member x p) log (of-ledger (clearCall q n) ∷ [])))
 
 -- From any pool that passes the audit, with its keys: a pool that is taken up again.
 module _ {p q : List ℕ} {log : List Entry} (g : Passing p) (calls : Calls p log q) where
@@ -130,7 +193,7 @@ module _ {p q : List ℕ} {log : List Entry} (g : Passing p) (calls : Calls p lo
   pub history-from-search : (x : ℕ) → SearchTells (toldFrom x (member x p) log) (codeOf (searchAnswer q x))
   history-from-search x = rw (← history-from x) (let k = search-codes history-passing x in record { done-when = k .done-when; absent-when = k .absent-when })
 
-  -- and by what it answered on the words before: it finds x exactly when it did so then and no accepted delete came, or x was inserted since.
+  -- and by what it answered on the words before: it finds x exactly when it did so then and nothing took x, or x was inserted since.
   pub history-of-searches : (x : ℕ) → (codeOf (searchAnswer q x) ≡ 0) ↔ KeptOrInserted x (codeOf (searchAnswer p x) ≡ 0) log
   history-of-searches x =
       let now = search-codes history-passing x .done-when in

@@ -6,5 +6,6 @@ pub mod Codes
 pub mod Striking
 pub mod Told
 pub mod History
+pub mod Texts
 pub mod StepsInBatches
 pub mod StepsLeft

@@ -15,11 +15,11 @@ use Rattle.format.specs.Audit.{stateOf}
 use Rattle.encoding.specs.declared.Command.{Command}
 use Rattle.encoding.specs.Batch.{Batch, commands, badAt, readBatch, perform, answersOf, runAll, answerWords, filled, Call, called, batch}
 use Rattle.encoding.proofs.AnswerWords.{answers-append, words-append, run-words-length}
-use Rattle.demands.specs.Calls.{Entry, entries, logRead, logOf}
+use Rattle.demands.specs.Calls.{Entry, of-command, entries, logRead, logOf}
 
 -- The entries that commands make on a State.
 abbrev pub entry : Command → Answer → Entry
-entry c a = record { command = c; code = codeOf a; number = numberOf a }
+entry c a = of-command c (codeOf a) (numberOf a)
 
 unfoldable pub entriesOf : List Command → State → List Entry
 entriesOf [] S = []

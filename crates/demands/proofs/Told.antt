@@ -1,79 +1,100 @@
 -- What a log tells of a key, entry by entry; and that `told` is the sentence "inserted with code 0 and not since deleted with code 0"
 -- (`told-exactly`), and `toldFrom`, for a pool that may have had the key before, that sentence or "it was there and has not been deleted
--- with code 0" (`told-from-exactly`). Assumes nothing.
+-- with code 0" (`told-from-exactly`), where a clearing deletes the marks that crate ledger says (`is-mark`). Assumes nothing.
 use mathlib.Core.Path.{_≡_, refl, ap, sym, _∙_}
 use mathlib.Core.Logic.{_≢_, _↔_, inl, inr}
 use mathlib.Core.Bool.{Bool, true, false, and-false}
 use mathlib.Core.List.{List, [], _∷_, _++_}
-use borrow.Author.Tests.{eq-eqb, ne-eqb}
+use borrow.Author.Tests.{eq-eqb, ne-eqb, eqb-false, leb-true, le-leb, not-true}
 use native.Mathlib.Omega.{arith}
 use Prim.Native.Nat.{ℕ}
+use Rattle.tree.proofs.Tests.{three-true}
 use Rattle.encoding.specs.declared.Operation.the-variants.{Insert, Delete}
+use Rattle.encoding.specs.declared.Command.{Command}
 use Rattle.encoding.specs.Operations.{operationNumber}
-use Rattle.demands.specs.Calls.{Entry, isOf, accepted, tells, toldFrom, told, NoneAccepted, InsertedSince, KeptOrInserted}
+use Rattle.ledger.specs.Ledger.{mostResident, mostAttempts, markKey}
+use Rattle.ledger.specs.Sends.{IsMark}
+use Rattle.ledger.proofs.Arguments.{mark-of}
+use Rattle.demands.specs.Calls.{Entry, of-command, isOf, isMark, puts, takes, tells, toldFrom, told, NoneTakes, InsertedSince, KeptOrInserted}
 
--- What an entry tells of x: nothing new, unless it is an accepted insert or delete of x.
+-- What an entry tells of x: nothing new, unless it puts or takes x.
 module _ (x : ℕ) (e : Entry) (before : ℕ) where
-  tells-kept : accepted Insert x e ≡ false → accepted Delete x e ≡ false → tells x e before ≡ before
+  pub tells-kept : puts x e ≡ false → takes x e ≡ false → tells x e before ≡ before
   unfolding tells
   tells-kept f g = rw (f, tells, g) (omega arith)
 
-  pub other-operation : operationNumber (e .command .operation) ≢ operationNumber Insert → operationNumber (e .command .operation) ≢ operationNumber Delete
-      → tells x e before ≡ before
-  unfolding accepted isOf
-  other-operation f g = tells-kept (rw (ne-eqb _ _ f)) (rw (ne-eqb _ _ g))
+  pub tells-put : puts x e ≡ true → tells x e before ≡ 1
+  unfolding tells
+  tells-put f = rw (f, tells)
 
-  pub other-key : e .command .first ≢ x → tells x e before ≡ before
-  unfolding accepted
-  other-key f = tells-kept (rw (ne-eqb _ _ f, and-false)) (rw (ne-eqb _ _ f, and-false))
+  pub tells-taken : puts x e ≡ false → takes x e ≡ true → tells x e before ≡ 0
+  unfolding tells
+  tells-taken f g = rw (f, tells, g) (omega arith)
 
-  pub other-code : e .code ≢ 0 → tells x e before ≡ before
-  unfolding accepted
-  other-code f = tells-kept (rw (ne-eqb _ _ f, and-false)) (rw (ne-eqb _ _ f, and-false))
+-- The same of a command's entry.
+module _ (x : ℕ) (c : Command) (code number before : ℕ) where
+  pub other-operation : operationNumber (c .operation) ≢ operationNumber Insert → operationNumber (c .operation) ≢ operationNumber Delete
+      → tells x (of-command c code number) before ≡ before
+  unfolding puts takes isOf
+  other-operation f g = tells-kept x (of-command c code number) before (rw (ne-eqb _ _ f)) (rw (ne-eqb _ _ g))
 
-  pub tells-insert : e .command .operation ≡ Insert → e .command .first ≡ x → e .code ≡ 0 → tells x e before ≡ 1
-  unfolding accepted isOf tells
-  tells-insert o k c = rw (o, eq-eqb _ _ k, eq-eqb _ _ c, tells)
+  pub other-key : c .first ≢ x → tells x (of-command c code number) before ≡ before
+  unfolding puts takes
+  other-key f = tells-kept x (of-command c code number) before (rw (ne-eqb _ _ f, and-false)) (rw (ne-eqb _ _ f, and-false))
 
-  pub tells-delete : e .command .operation ≡ Delete → e .command .first ≡ x → e .code ≡ 0 → tells x e before ≡ 0
-  unfolding accepted isOf tells
-  tells-delete o k c =
-      let n : accepted Insert x e ≡ false = rw o in
-      rw (n, tells, o, eq-eqb _ _ k, eq-eqb _ _ c) (omega arith)
+  pub other-code : code ≢ 0 → tells x (of-command c code number) before ≡ before
+  unfolding puts takes
+  other-code f = tells-kept x (of-command c code number) before (rw (ne-eqb _ _ f, and-false)) (rw (ne-eqb _ _ f, and-false))
+
+  pub tells-insert : c .operation ≡ Insert → c .first ≡ x → code ≡ 0 → tells x (of-command c code number) before ≡ 1
+  unfolding puts isOf
+  tells-insert o k z = tells-put x (of-command c code number) before (rw (o, eq-eqb _ _ k, eq-eqb _ _ z))
+
+  pub tells-delete : c .operation ≡ Delete → c .first ≡ x → code ≡ 0 → tells x (of-command c code number) before ≡ 0
+  unfolding puts takes isOf
+  tells-delete o k z = tells-taken x (of-command c code number) before (rw o) (rw (o, eq-eqb _ _ k, eq-eqb _ _ z))
+
+-- The test for a notice's marks says what the send limit's page says.
+pub is-mark : (n x : ℕ) → (isMark n x ≡ true) ↔ IsMark n x
+unfolding isMark markKey
+is-mark n x = (
+  λ h.
+      let t = three-true _ _ _ h in
+      mark-of n x .1 (leb-true _ x (t .0), omega (arith, leb-true x (markKey n mostResident mostAttempts) (t .1)), eqb-false _ 0 (not-true _ (t .2))),
+  λ m.
+      let k = mark-of n x .0 m in
+      rw (le-leb _ x (k .0), le-leb x (markKey n mostResident mostAttempts) (omega (arith, k .1)), ne-eqb _ 0 (k .2)),
+)
 
 pub told-append : (x before : ℕ) (l m : List Entry) → toldFrom x before (l ++ m) ≡ toldFrom x (toldFrom x before l) m
 unfolding toldFrom
 told-append x before [] m = refl
 told-append x before (e ∷ l) m = told-append x (tells x e before) l m
 
--- An accepted insert of x tells 1, whatever was before; with no accepted delete since, that stays.
+-- What is told stays as long as nothing takes x.
 module _ (x : ℕ) where
-  insert-tells : (e : Entry) (before : ℕ) → accepted Insert x e ≡ true → tells x e before ≡ 1
-  unfolding tells
-  insert-tells e before f = rw (f, tells)
-
-  none-stays : (before : ℕ) (log : List Entry) → before ≡ 1 → NoneAccepted Delete x log → toldFrom x before log ≡ 1
-  unfolding toldFrom NoneAccepted
+  pub none-stays : (before : ℕ) (log : List Entry) → before ≡ 1 → NoneTakes x log → toldFrom x before log ≡ 1
+  unfolding toldFrom NoneTakes
   none-stays before [] h n = h
-  none-stays before (e ∷ log) h n = none-stays (tells x e before) log (go (accepted Insert x e) refl) (n .1)
+  none-stays before (e ∷ log) h n = none-stays (tells x e before) log (go (puts x e) refl) (n .1)
     where
-      go : (b : Bool) → accepted Insert x e ≡ b → tells x e before ≡ 1
-      go true f = insert-tells e before f
+      go : (b : Bool) → puts x e ≡ b → tells x e before ≡ 1
+      go true f = tells-put x e before f
       go false f = tells-kept x e before f (n .0) ∙ h
 
   since-told : (before : ℕ) (log : List Entry) → InsertedSince x log → toldFrom x before log ≡ 1
   unfolding toldFrom
   since-told before log s =
       rw (s .log-is)
-      (told-append x before (s .earlier) (s .insertion ∷ s .later) ∙ none-stays _ (s .later) (insert-tells (s .insertion) _ (s .is-accepted)) (s .none-since))
+      (told-append x before (s .earlier) (s .insertion ∷ s .later) ∙ none-stays _ (s .later) (tells-put x (s .insertion) _ (s .is-accepted)) (s .none-since))
 
-  -- The other way, entry by entry: it was so before and no delete came, or it was inserted since.
+  -- The other way, entry by entry: it was so before and nothing took x, or it was inserted since.
   told-either : (before : ℕ) (log : List Entry) → toldFrom x before log ≡ 1 → KeptOrInserted x (before ≡ 1) log
-  unfolding toldFrom NoneAccepted tells
+  unfolding toldFrom NoneTakes
   told-either before [] h = inl (h, tt)
-  told-either before (e ∷ log) h = go (accepted Insert x e) refl (accepted Delete x e) refl (told-either (tells x e before) log h)
+  told-either before (e ∷ log) h = go (puts x e) refl (takes x e) refl (told-either (tells x e before) log h)
     where
-      go : (a : Bool) → accepted Insert x e ≡ a → (b : Bool) → accepted Delete x e ≡ b → KeptOrInserted x (tells x e before ≡ 1) log
+      go : (a : Bool) → puts x e ≡ a → (b : Bool) → takes x e ≡ b → KeptOrInserted x (tells x e before ≡ 1) log
           → KeptOrInserted x (before ≡ 1) (e ∷ log)
       go a f b g (inr s) = inr (record {
         earlier = e ∷ s .earlier;
@@ -84,7 +105,7 @@ module _ (x : ℕ) where
         none-since = s .none-since;
       })
       go true f b g (inl k) = inr (record { earlier = []; insertion = e; later = log; log-is = refl; is-accepted = f; none-since = k .1 })
-      go false f true g (inl k) = let z : tells x e before ≡ 0 = rw (f, tells, g) (omega arith) in absurd (omega (arith, k .0))
+      go false f true g (inl k) = absurd (omega (arith, k .0, tells-taken x e before f g))
       go false f false g (inl k) = inl (sym (tells-kept x e before f g) ∙ k .0, (g, k .1))
 
   pub told-from-exactly : (before : ℕ) (log : List Entry) → (toldFrom x before log ≡ 1) ↔ KeptOrInserted x (before ≡ 1) log

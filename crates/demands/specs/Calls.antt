@@ -1,10 +1,11 @@
--- Sequences of batch calls and restarts, and their log (RULES 13): each command that ran, with the two answer words that it got. All of it can be seen
--- from outside: bytes, answer words, codes. What the demands say of such sequences is proved in proofs/.
+-- Sequences of batch calls, restarts and calls of the send limit, and their log (RULES 13, RULES 17.6): each command that ran, with the two answer
+-- words that it got, and each call of the send limit, with its code and number. All of it can be seen from outside: bytes, arguments, answer
+-- words, codes. What the demands say of such sequences is proved in proofs/.
 use mathlib.Core.Path.{_≡_}
 use mathlib.Core.Logic.{_≢_, _↔_, _⊎_}
-use mathlib.Core.Bool.{Bool, true, false, _&&_}
+use mathlib.Core.Bool.{Bool, true, false, not, _&&_}
 use mathlib.Core.List.{List, [], _∷_, _++_}
-use lib.Dec.{eqb}
+use lib.Dec.{eqb, leb}
 use lib.ListN.{getD, take, drop}
 use Prim.Native.Nat.{ℕ, _+_}
 use Rattle.tree.specs.declared.Refusal.the-variants.{KeyAbsent}
@@ -19,17 +20,18 @@ use Rattle.format.specs.Words.{wordsOf}
 use Rattle.format.specs.Audit.{stateOf}
 use Rattle.saved.specs.Calls.{saveCall, loadCall}
 use Rattle.encoding.specs.Batch.{Batch, commands, badAt, readBatch, runAll, Call, batch}
+use Rattle.ledger.specs.Ledger.{mostResident, mostAttempts, markKey, attemptOf, maySend, clearNotice}
+use Rattle.ledger.specs.Sequences.{LedgerCall, send-call, clear-call, sendCall, clearCall}
 
--- a command that ran, with its answer's code and number
-pub record Entry : Type 0 where
-  pub command : Command
-  pub code : ℕ
-  pub number : ℕ
+-- a command that ran, with its answer's code and number; or a call of the send limit, with its own
+pub data Entry : Type 0 where
+  of-command : (command : Command) (code number : ℕ) → Entry
+  of-ledger : LedgerCall → Entry
 
 -- "Each command fills two answer words, code and number": the commands with their words, in order
 unfoldable pub entries : List Command → List ℕ → List Entry
 entries [] words = []
-entries (c ∷ cs) words = record { command = c; code = getD words 0 0; number = getD words 1 0 } ∷ entries cs (drop 2 words)
+entries (c ∷ cs) words = of-command c (getD words 0 0) (getD words 1 0) ∷ entries cs (drop 2 words)
 
 -- The log of one call: of a call that is refused, nothing ran.
 unfoldable pub logRead : Batch → Call → List Entry
@@ -50,24 +52,39 @@ pub record Restart (q r : List ℕ) : Type 0 where
   pub is-loaded : (loadCall words (take count ((saveCall q out) .left))) .answer ≡ Done nodes
   pub leaves : r ≡ (loadCall words (take count ((saveCall q out) .left))) .left
 
--- Batch calls one after the other, from the words p to the words q: with any bytes and any answer words, refused ones among them; and
--- restarts between them, which no log shows.
+-- Calls one after the other, from the words p to the words q: batch calls with any bytes and any answer words and may send and clearing with
+-- any arguments, refused ones among them; and restarts between them, which no log shows.
 pub data Calls (p : List ℕ) : List Entry → List ℕ → Type 0 where
   no-call : Calls p [] p
   then-call : {log : List Entry} {q : List ℕ} → Calls p log q → (bytes out : List ℕ) → Bytes bytes → Calls p (log ++ logOf q bytes out) ((batch q bytes out) .pool)
   then-restart : {log : List Entry} {q r : List ℕ} → Calls p log q → Restart q r → Calls p log r
+  then-send : {log : List Entry} {q : List ℕ} → Calls p log q → (n r l : ℕ) → Calls p (log ++ (of-ledger (sendCall q n r l) ∷ [])) ((maySend q n r l) .left)
+  then-clear : {log : List Entry} {q : List ℕ} → Calls p log q → (n : ℕ) → Calls p (log ++ (of-ledger (clearCall q n) ∷ [])) ((clearNotice q n) .left)
 
--- an entry that is this operation; on this key; accepted: with code 0
-unfoldable pub isOf : Operation → Entry → Bool
-isOf o e = eqb (operationNumber (e .command .operation)) (operationNumber o)
+-- a command that is this operation
+unfoldable pub isOf : Operation → Command → Bool
+isOf o c = eqb (operationNumber (c .operation)) (operationNumber o)
 
-unfoldable pub accepted : Operation → ℕ → Entry → Bool
-accepted o x e = isOf o e && eqb (e .command .first) x && eqb (e .code) 0
+-- the key x is a mark of notice n: one of the notice's keys, and of an attempt from 1 on
+unfoldable pub isMark : (n x : ℕ) → Bool
+isMark n x = leb (markKey n 0 0) x && leb x (markKey n mostResident mostAttempts) && not (eqb (attemptOf x) 0)
 
--- Demand 2 (RULES 13.2), in the demand's own words: the keys "inserted with code 0 and not since deleted with code 0". Whether x is one
--- after an entry (1, or 0), if `before` says whether it was one before; and after a whole log.
+-- An entry with code 0 that puts the key x into the set: an insert of it, or a yes that marks it ..
+unfoldable pub puts : ℕ → Entry → Bool
+puts x (of-command c code number) = isOf Insert c && eqb (c .first) x && eqb code 0
+puts x (of-ledger (send-call n r l code a)) = eqb (markKey n r a) x && eqb code 0
+puts x (of-ledger (clear-call n code count)) = false
+
+-- .. and one that takes it out: a delete of it, or a clearing of its notice.
+unfoldable pub takes : ℕ → Entry → Bool
+takes x (of-command c code number) = isOf Delete c && eqb (c .first) x && eqb code 0
+takes x (of-ledger (send-call n r l code a)) = false
+takes x (of-ledger (clear-call n code count)) = isMark n x && eqb code 0
+
+-- Demand 2 (RULES 13.2), in the demand's own words: the keys "inserted with code 0 and not since deleted with code 0", by whichever
+-- call. Whether x is one after an entry (1, or 0), if `before` says whether it was one before; and after a whole log.
 unfoldable pub tells : ℕ → Entry → ℕ → ℕ
-tells x e before = elim (accepted Insert x e) [ true ↦ 1 | false ↦ elim (accepted Delete x e) [ true ↦ 0 | false ↦ before ] ]
+tells x e before = elim (puts x e) [ true ↦ 1 | false ↦ elim (takes x e) [ true ↦ 0 | false ↦ before ] ]
 
 unfoldable pub toldFrom : ℕ → ℕ → List Entry → ℕ
 toldFrom x before [] = before
@@ -76,41 +93,44 @@ toldFrom x before (e ∷ log) = toldFrom x (tells x e before) log
 abbrev pub told : ℕ → List Entry → ℕ
 told x log = toldFrom x 0 log
 
--- The same as a sentence: somewhere an accepted insert of x, and since then no accepted delete of x. (`told-exactly`: it is the same.)
-unfoldable pub NoneAccepted : Operation → ℕ → List Entry → Type 0
-NoneAccepted o x [] = Unit {0}
-NoneAccepted o x (e ∷ log) = (accepted o x e ≡ false) × NoneAccepted o x log
+-- The same as a sentence: somewhere an entry that puts x, and since then none that takes it. (`told-exactly`: it is the same.)
+unfoldable pub NoneTakes : ℕ → List Entry → Type 0
+NoneTakes x [] = Unit {0}
+NoneTakes x (e ∷ log) = (takes x e ≡ false) × NoneTakes x log
 
 pub record InsertedSince (x : ℕ) (log : List Entry) : Type 0 where
   pub earlier : List Entry
   pub insertion : Entry
   pub later : List Entry
   pub log-is : log ≡ earlier ++ (insertion ∷ later)
-  pub is-accepted : accepted Insert x insertion ≡ true
-  pub none-since : NoneAccepted Delete x later
+  pub is-accepted : puts x insertion ≡ true
+  pub none-since : NoneTakes x later
 
--- The same from a pool that may have keys, a pool that is taken up again: x was in it and since then came no accepted delete of x, or it
--- was inserted since. (`told-from-exactly`: it is the same.)
+-- The same from a pool that may have keys, a pool that is taken up again: x was in it and since then nothing took it, or it was inserted
+-- since. (`told-from-exactly`: it is the same.)
 abbrev pub KeptOrInserted : ℕ → Type 0 → List Entry → Type 0
-KeptOrInserted x was-in log = (was-in × NoneAccepted Delete x log) ⊎ InsertedSince x log
+KeptOrInserted x was-in log = (was-in × NoneTakes x log) ⊎ InsertedSince x log
 
 -- A search's code, by what is told of its key: 0 exactly when that is 1; 6, "key absent", exactly when it is 0.
 pub record SearchTells (is-told given : ℕ) : Type 0 where
   pub done-when : (given ≡ 0) ↔ (is-told ≡ 1)
   pub absent-when : (given ≡ code KeyAbsent) ↔ (is-told ≡ 0)
 
--- Demand 3 (RULES 13.3): the accepted steps of an entry, a step with code 0 or the steps that a settle reports; and of a whole log.
+-- Demand 3 (RULES 13.3): the accepted steps of an entry, a step with code 0 or the steps that a settle reports (the send limit takes none); and
+-- of a whole log.
 unfoldable pub stepsOf : Entry → ℕ
-stepsOf e = elim (isOf Step e && eqb (e .code) 0) [ true ↦ 1 | false ↦ elim (isOf Settle e) [ true ↦ e .number | false ↦ 0 ] ]
+stepsOf (of-command c code number) = elim (isOf Step c && eqb code 0) [ true ↦ 1 | false ↦ elim (isOf Settle c) [ true ↦ number | false ↦ 0 ] ]
+stepsOf (of-ledger call) = 0
 
 unfoldable pub stepsIn : List Entry → ℕ
 stepsIn [] = 0
 stepsIn (e ∷ log) = stepsOf e + stepsIn log
 
--- no insert and no delete among the accepted ones
-pub record NoUpdate (e : Entry) : Type 0 where
-  pub no-insert : e .code ≡ 0 → e .command .operation ≢ Insert
-  pub no-delete : e .code ≡ 0 → e .command .operation ≢ Delete
+-- none of the accepted ones that change the set: no insert and no delete, no yes, and no clearing by which a mark went
+unfoldable pub NoUpdate : Entry → Type 0
+NoUpdate (of-command c code number) = code ≡ 0 → (c .operation ≢ Insert) × (c .operation ≢ Delete)
+NoUpdate (of-ledger (send-call n r l code a)) = code ≢ 0
+NoUpdate (of-ledger (clear-call n code count)) = code ≡ 0 → count ≡ 0
 
 unfoldable pub NoUpdates : List Entry → Type 0
 NoUpdates [] = Unit {0}

@@ -1,1 +1,1 @@
-// The demands as a whole: laws over sequences of batch calls, and no code. See specs/ and proofs/.
+// The demands as a whole: laws over sequences of calls, and no code. See specs/ and proofs/.
