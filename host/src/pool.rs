@@ -438,7 +438,7 @@ impl<W: Words> Pool<W> {
     /// [`Refused::OutOfRange`] for a notice, resident or limit that is not in its range ([`Text`] has them), or as
     /// [`Pool::audit`]; then no word changes.
     ///
-    /// Proved: `may-send-says`, `may-send-codes`, `full-sends-nothing`, `texts-at-most`.
+    /// Proved: `send-codes`, `yes-returned`, `full-returned`, `texts-in-calls`.
     pub fn may_send(&mut self, text: Text, limit: u32) -> Result<MaySend, Refused> {
         let [code, number] = halves(raw::may_send(&mut self.words, text.notice, text.resident, limit));
         MaySend::read(text, code, number)
@@ -454,7 +454,7 @@ impl<W: Words> Pool<W> {
     /// # Errors
     /// [`Refused::OutOfRange`] for a notice that is not in [`Text::NOTICES`], or as [`Pool::audit`]; then no word changes.
     ///
-    /// Proved: `clear-says`.
+    /// Proved: `clear-says`, `clear-codes`.
     pub fn clear_notice(&mut self, notice: u32) -> Result<u32, Refused> {
         let [code, number] = halves(raw::clear_notice(&mut self.words, notice));
         Refused::check(code, number)?;

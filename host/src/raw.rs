@@ -105,7 +105,7 @@ pub fn load(pool: &mut [u32], saved: &[u8]) -> u64 {
 /// gives it: one text may go. Or gives, changing nothing, a refusal's code (15, 1, 2, 16 or 7, tried in that order) times
 /// 4,294,967,296, and no text may go. The notice is from 1 to 65,535, the resident from 0 to 8,191, the limit from 1 to 7.
 ///
-/// Proved: `may-send-says`, `may-send-codes`, `full-sends-nothing`, `texts-at-most`.
+/// Proved: `send-codes`, `yes-returned`, `full-returned`, `texts-in-calls`.
 #[must_use = "whether a text may go is in here, and which attempt is marked for it"]
 pub fn may_send(pool: &mut [u32], notice: u32, resident: u32, limit: u32) -> u64 {
     let _ = interface();
@@ -116,7 +116,7 @@ pub fn may_send(pool: &mut [u32], notice: u32, resident: u32, limit: u32) -> u64
 /// Deletes the notice's marks, attempts 1 to 7 of every resident, the smallest key first, and gives how many went; its count
 /// of texts begins afresh. Or gives, changing nothing, a refusal's code (15, 1 or 2, tried in that order) times 4,294,967,296.
 ///
-/// Proved: `clear-says`.
+/// Proved: `clear-says`, `clear-codes`.
 #[must_use = "how many marks went is in here; a refused call cleared nothing"]
 pub fn clear_notice(pool: &mut [u32], notice: u32) -> u64 {
     let _ = interface();

@@ -36,7 +36,7 @@ pub fn may_send(pool: &mut [u32], notice: u32, resident: u32, limit: u32) -> u64
     }
     let unmarked = |&attempt: &u32| search(pool, key(notice, resident, attempt)).code == code::KEY_ABSENT;
     let Some(attempt) = (1..=limit).find(unmarked) else {
-        return refused(code::ALL_MARKED, 0);
+        return refused(code::ALL_USED, 0);
     };
     match insert(pool, key(notice, resident, attempt)) {
         Answer { code: code::GOOD, .. } => u64::from(attempt),

@@ -39,5 +39,5 @@ pub mod code {
     pub const NEVER_WRITTEN: u32 = 13;
     pub const OTHER_SIZE: u32 = 14;
     pub const OUT_OF_RANGE: u32 = 15;
-    pub const ALL_MARKED: u32 = 16;
+    pub const ALL_USED: u32 = 16;
 }
