@@ -135,6 +135,22 @@ fn sends_answer(pair: &mut Pair, (notice, resident): (u32, u32), sends: &[(u32, 
     }
 }
 
+/// The table of docs/FORMATS.md, "Worked by hand", in a pool of 5 slots.
+#[test]
+fn the_page_s_lines() {
+    let mut pair = Pair::prepared(5);
+    sends_answer(&mut pair, (4411, 17), &[(2, (0, 1)), (2, (0, 2)), (2, (16, 0))]);
+    sends_answer(&mut pair, (4411, 18), &[(2, (0, 1))]);
+    assert_eq!(held(&pair.words), [289_079_433, 289_079_434, 289_079_441]);
+    sends_answer(&mut pair, (4412, 17), &[(2, (7, 0))]);
+    pair.run(Command::Delete(289_079_433));
+    sends_answer(&mut pair, (4411, 17), &[(2, (0, 1))]);
+    sends_answer(&mut pair, (4411, 8_192), &[(2, (15, 0))]);
+    assert_eq!(held(&pair.words), [289_079_433, 289_079_434, 289_079_441]);
+    assert_eq!(pair.call(clear(4411)), (0, 3));
+    assert!(held(&pair.words).is_empty());
+}
+
 #[test]
 fn attempts_in_turn_then_all_used() {
     for (notice, resident) in [(1, 0), (4411, 1), (65_535, 8_191), (1, 8_191), (65_535, 0)] {
