@@ -1,13 +1,15 @@
 -- 02 (iv) as a host sees it, from the word that an export returns and the words that it leaves. That word is code and number and nothing is lost
--- (`send-parts`, `clear-parts`), so a sequence's calls are read off the words (`send-call-returned`, `clear-call-returned`). A yes returns the
--- attempt itself, and then a search finds its key, which it did not find before (`yes-returned`); every other word means that nothing changed
--- (`no-returned`). **Of a full pool every call with arguments in their ranges returns 16 or 7, and no word changes** (`full-returned`), full being
+-- (`send-parts`, `clear-parts`), so a sequence's calls are read off the words (`send-call-returned`, `clear-call-returned`), and each code is
+-- returned exactly for its cause (`send-codes-returned`, `clear-codes-returned`). A yes returns the attempt itself, and then a search finds its
+-- key, which it did not find before, and of every other key what it found before (`yes-returned`); every other word means that nothing changed
+-- (`no-returned`). A clearing returns how many marks went (`clear-returned`). **Of a full pool every call with arguments in their ranges returns 16 or 7, and no word changes** (`full-returned`), full being
 -- read off C and the report's N. Assumes nothing.
-use mathlib.Core.Path.{_≡_, sym, _∙_}
+use mathlib.Core.Path.{_≡_, ap, sym, _∙_}
 use mathlib.Core.Logic.{_≢_, _⊎_, inl, inr}
 use mathlib.Core.List.{List}
 use Prim.Native.Nat.{ℕ, pred, _+_, _*_, _/_, _%_, _≤_, _<_}
 use native.Mathlib.Omega.{arith}
+use native.Mathlib.Decide.{ℕ-discrete}
 use Rattle.tree.specs.declared.Refusal.the-variants.{KeyAbsent}
 use Rattle.tree.specs.Codes.{code, codeOf, numberOf}
 use Rattle.tree.specs.State.{figures}
@@ -16,13 +18,13 @@ use Rattle.format.specs.Performing.{Call}
 use Rattle.format.specs.Audit.{auditCode}
 use Rattle.report.specs.Report.{figureAt}
 use Rattle.set.specs.Operations.{searchAnswer}
-use Rattle.set.specs.Set.{Passing, held, room, needed}
-use Rattle.set.proofs.Promises.{Words32, audit-passes, passing-audited, room-exact, needed-exact, nodes-exact, report-nodes, more-here, search-codes}
+use Rattle.set.specs.Set.{Passing, member, held, room, needed}
+use Rattle.set.proofs.Promises.{Words32, audit-passes, passing-audited, room-exact, needed-exact, nodes-exact, report-nodes, member-once, more-here, more-elsewhere, search-codes}
 use Rattle.ledger.specs.Ledger.{markKey, maySend, clearNotice}
-use Rattle.ledger.specs.Sends.{ArgumentsIn, SendEnds, sends-15, sends-1, sends-2, sends-16, sends-7, sends-0}
+use Rattle.ledger.specs.Sends.{ArgumentsIn, SendEnds, sends-15, sends-1, sends-2, sends-16, sends-7, sends-0, SendCodes, Cleaned, ClearCodes}
 use Rattle.ledger.specs.Sequences.{send-call, clear-call, sendCall, clearCall}
-use Rattle.ledger.proofs.Sending.{send-ends, send-says, send-refused, full-sends-nothing}
-use Rattle.ledger.proofs.Clearing.{clear-few}
+use Rattle.ledger.proofs.Sending.{send-ends, send-codes, send-says, send-refused, full-sends-nothing}
+use Rattle.ledger.proofs.Clearing.{clear-codes, clear-says, clear-refused, clear-few}
 use Rattle.chromatic.specs.Exports.{numberAt, codeUnit, returnedAnswer}
 use Rattle.chromatic.proofs.Restart.{answer-parts}
 
@@ -45,8 +47,8 @@ sendWord p n r l = returnedAnswer ((maySend p n r l) .answer)
 abbrev pub clearWord : List ℕ → (n : ℕ) → ℕ
 clearWord p n = returnedAnswer ((clearNotice p n) .answer)
 
--- A yes: the word is the attempt, from 1 to the limit. The pool passes the audit before and after, and the attempt's key, which a search did
--- not find, is found.
+-- A yes: the word is the attempt, from 1 to the limit. The pool passes the audit before and after, the attempt's key, which a search did
+-- not find, is found, and every other key is found as before.
 pub record YesReturned (p : List ℕ) (n r l : ℕ) : Type 0 where
   pub from-one : 1 ≤ sendWord p n r l
   pub to-limit : sendWord p n r l ≤ l
@@ -54,10 +56,24 @@ pub record YesReturned (p : List ℕ) (n r l : ℕ) : Type 0 where
   pub passes : auditCode ((maySend p n r l) .left) ≡ 0
   pub not-found : codeOf (searchAnswer p (markKey n r (sendWord p n r l))) ≡ code KeyAbsent
   pub is-found : codeOf (searchAnswer ((maySend p n r l) .left) (markKey n r (sendWord p n r l))) ≡ 0
+  pub others-stay : (y : ℕ) → y ≢ markKey n r (sendWord p n r l) → codeOf (searchAnswer ((maySend p n r l) .left) y) ≡ codeOf (searchAnswer p y)
+
+-- A key that is in both or in neither is found in both or in neither.
+same-code : {p q : List ℕ} → Passing p → Passing q → (y : ℕ) → member y p ≡ member y q → codeOf (searchAnswer q y) ≡ codeOf (searchAnswer p y)
+same-code {p} {q} g h y e = go (ℕ-discrete (member y p) 0)
+  where
+    go : Dec (member y p ≡ 0) → codeOf (searchAnswer q y) ≡ codeOf (searchAnswer p y)
+    go (yes z) = search-codes h y .absent-when .1 (sym e ∙ z) ∙ sym (search-codes g y .absent-when .1 z)
+    go (no d) =
+        let there : member y p ≡ 1 = omega (arith, member-once g y) in
+        search-codes h y .done-when .1 (sym e ∙ there) ∙ sym (search-codes g y .done-when .1 there)
 
 module _ (p : List ℕ) (n r l : ℕ) (words : Words32 p) where
   pub send-parts : (sendWord p n r l / codeUnit ≡ codeOf ((maySend p n r l) .answer)) × (sendWord p n r l % codeUnit ≡ numberOf ((maySend p n r l) .answer))
   send-parts = answer-parts ((maySend p n r l) .answer) (send-small p n r l words)
+
+  pub send-codes-returned : SendCodes p n r l (sendWord p n r l / codeUnit)
+  send-codes-returned = rw (send-parts .0) (send-codes p n r l words)
 
   pub send-call-returned : sendCall p n r l ≡ send-call n r l (sendWord p n r l / codeUnit) (sendWord p n r l % codeUnit)
   send-call-returned = rw (send-parts .0, send-parts .1)
@@ -74,6 +90,7 @@ module _ (p : List ℕ) (n r l : ℕ) (words : Words32 p) where
         passes = passing-audited (s .passes);
         not-found = rw is (search-codes (s .passed) _ .absent-when .1 (s .attempt-is .unmarked));
         is-found = rw is (search-codes (s .passes) _ .done-when .1 (omega (arith, more-here (s .one-more), s .attempt-is .unmarked)));
+        others-stay = λ y d. same-code (s .passed) (s .passes) y (sym (more-elsewhere (s .one-more) y (λ e. d (e ∙ sym (ap (markKey n r) is)))));
       }
 
   pub no-returned : sendWord p n r l / codeUnit ≢ 0 → (sendWord p n r l % codeUnit ≡ 0) × ((maySend p n r l) .left ≡ p)
@@ -111,6 +128,18 @@ full-returned p words passed some few n r l i = (go (s .0), s .1)
 module _ (p : List ℕ) (n : ℕ) (words : Words32 p) where
   pub clear-parts : (clearWord p n / codeUnit ≡ codeOf ((clearNotice p n) .answer)) × (clearWord p n % codeUnit ≡ numberOf ((clearNotice p n) .answer))
   clear-parts = answer-parts ((clearNotice p n) .answer) (omega (arith, clear-few p n words))
+
+  pub clear-codes-returned : ClearCodes p n (clearWord p n / codeUnit)
+  clear-codes-returned = rw (clear-parts .0) (clear-codes p n words)
+
+  -- the notice's marks are gone, all other keys are as before, and the word is how many went
+  pub clear-returned : clearWord p n / codeUnit ≡ 0 → Cleaned p n (clearWord p n) ((clearNotice p n) .left)
+  clear-returned z =
+      let is : clearWord p n ≡ numberOf ((clearNotice p n) .answer) = omega (arith, z, clear-parts .1) in
+      rw is (clear-says p n words (sym (clear-parts .0) ∙ z))
+
+  pub clear-no-returned : clearWord p n / codeUnit ≢ 0 → (clearWord p n % codeUnit ≡ 0) × ((clearNotice p n) .left ≡ p)
+  clear-no-returned d = let s = clear-refused p n words (λ z. d (clear-parts .0 ∙ z)) in (clear-parts .1 ∙ s .0, s .1)
 
   pub clear-call-returned : clearCall p n ≡ clear-call n (clearWord p n / codeUnit) (clearWord p n % codeUnit)
   clear-call-returned = rw (clear-parts .0, clear-parts .1)
