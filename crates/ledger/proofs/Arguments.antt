@@ -7,7 +7,7 @@ use mathlib.Core.Bool.{Bool, true, false, false≢true, _&&_}
 use lib.Dec.{leb}
 use borrow.Author.Tests.{leb-true, le-leb, lt-leb}
 use native.Mathlib.Omega.{arith}
-use Prim.Native.Nat.{ℕ, _+_, _*_, _-_, _/_, _%_, _≤_, _<_}
+use Prim.Native.Nat.{ℕ, _+_, _*_, _-_, _/_, _≤_, _<_}
 use Rattle.set.specs.Operations.{keyEnd}
 use Rattle.ledger.specs.Ledger.{mostNotice, mostResident, mostAttempts, noticeGood, argumentsGood, noticeKeys, residentKeys, markKey, attemptOf}
 use Rattle.ledger.specs.Sends.{NoticeIn, ArgumentsIn, IsMark}

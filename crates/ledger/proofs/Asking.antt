@@ -2,8 +2,8 @@
 -- finds (`lowest-found`): the lowest one that is not marked, or 0 where all are. And what is then answered, by what the insert of its key
 -- answers (`asked-used`, `asked-lacking`, `asked-yes`).
 -- Why: a key that is not in the set is inserted or has no room, and nothing else (`insert-says`). Assumes nothing.
-use mathlib.Core.Path.{_≡_, refl, ap, sym, _∙_}
-use mathlib.Core.Logic.{_≢_, _⊎_, inl, inr}
+use mathlib.Core.Path.{_≡_, refl, _∙_}
+use mathlib.Core.Logic.{_≢_}
 use mathlib.Core.List.{List}
 use borrow.Author.Tests.{eq-eqb, ne-eqb, le-leb, lt-leb}
 use native.Mathlib.Omega.{arith}

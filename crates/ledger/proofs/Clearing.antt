@@ -3,15 +3,15 @@
 -- other notices' marks among them, and the number is how many went (`clear-says`, `clear-counts`); where none went no word changes
 -- (`clear-none`).
 -- Why: `from-says`, over the notice's 65,536 keys, of which `mark-of` says which are marks. Assumes nothing.
-use mathlib.Core.Path.{_≡_, refl, ap, sym, _∙_}
-use mathlib.Core.Logic.{_↔_, _≢_}
-use mathlib.Core.Bool.{true, false, false≢true}
+use mathlib.Core.Path.{_≡_, refl, sym, _∙_}
+use mathlib.Core.Logic.{_≢_}
+use mathlib.Core.Bool.{true, false≢true}
 use mathlib.Core.List.{List}
 use native.Mathlib.Omega.{arith}
 use native.Mathlib.Decide.{ℕ-discrete}
 use Prim.Native.Nat.{ℕ, _+_, _≤_, _<_}
-use Rattle.set.specs.Operations.{codeOf, numberOf, Call, lengthGood}
-use Rattle.set.specs.Set.{Passing, member}
+use Rattle.set.specs.Operations.{codeOf, numberOf, Call}
+use Rattle.set.specs.Set.{Passing}
 use Rattle.set.proofs.Promises.{Words32, passing-length}
 use Rattle.ledger.specs.Ledger.{noticeKeys, noticeGood, markKey, attemptOf, clearedFrom, clearing, clearNotice}
 use Rattle.ledger.specs.Sends.{NoticeIn, IsMark, Cleaned, ClearEnds, clears-15, clears-1, clears-2, clears-0, ClearCodes}

@@ -3,21 +3,18 @@
 -- each was given under a limit of at most m (`texts-at-most`).
 -- Why: a yes under a limit of at most m adds a mark among attempts 1 to m, nothing takes one away but a clearing, after which there is none and
 -- the count begins afresh; so the answers are never more than the marks among attempts 1 to m, of which there are at most m. Assumes nothing.
-use mathlib.Core.Path.{_≡_, refl, ap, sym, _∙_}
-use mathlib.Core.Logic.{_≢_}
-use mathlib.Core.Bool.{Bool, true, false, _&&_}
+use mathlib.Core.Path.{_≡_, refl, sym}
 use mathlib.Core.List.{List, [], _∷_, _++_}
-use lib.Dec.{eqb}
-use borrow.Author.Tests.{eqb-true, eq-eqb, ne-eqb}
+use borrow.Author.Tests.{eq-eqb, ne-eqb}
 use native.Mathlib.Omega.{arith}
 use native.Mathlib.Decide.{ℕ-discrete}
-use Prim.Native.Nat.{ℕ, zero, suc, _+_, _≤_, _<_}
+use Prim.Native.Nat.{ℕ, zero, suc, _+_, _≤_}
 use Rattle.set.specs.Operations.{codeOf, numberOf}
 use Rattle.set.specs.Set.{Passing, member, OneMore}
 use Rattle.set.proofs.Promises.{passing-words, member-once, more-here, more-elsewhere}
 use Rattle.ledger.specs.Ledger.{mostResident, mostAttempts, markKey, maySend, clearNotice}
-use Rattle.ledger.specs.Sends.{IsMark, Sent, Cleaned}
-use Rattle.ledger.specs.Sequences.{LedgerCall, send-call, clear-call, sendCall, clearCall, textsAfter, textsFrom, texts, Within, AllWithin, KeepsMarks, Sending, no-send, then-send, then-clear, then-other}
+use Rattle.ledger.specs.Sends.{IsMark}
+use Rattle.ledger.specs.Sequences.{LedgerCall, sendCall, clearCall, textsAfter, textsFrom, texts, Within, AllWithin, KeepsMarks, Sending, no-send, then-send, then-clear, then-other}
 use Rattle.ledger.proofs.Arguments.{key-once}
 use Rattle.ledger.proofs.Sending.{send-passing, send-says, send-refused}
 use Rattle.ledger.proofs.Clearing.{clear-passing, clear-says, clear-refused}

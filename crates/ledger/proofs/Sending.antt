@@ -5,18 +5,16 @@
 -- Why: the order of refusals is `judged`'s, the attempt is what `lowest-found` says, and the insert does what the set promises. Assumes
 -- nothing.
 use mathlib.Core.Path.{_≡_, refl, ap, sym, _∙_}
-use mathlib.Core.Logic.{_↔_, _≢_, _⊎_, inl, inr}
-use mathlib.Core.Bool.{Bool, true, false, false≢true}
+use mathlib.Core.Logic.{_≢_, _⊎_, inl, inr}
+use mathlib.Core.Bool.{true, false≢true}
 use mathlib.Core.List.{List}
 use native.Mathlib.Omega.{arith}
 use Prim.Native.Nat.{ℕ, _+_, _≤_, _<_}
 use Rattle.tree.specs.declared.Answer.{Answer}
-use Rattle.tree.specs.declared.Answer.the-variants.{Done}
-use Rattle.tree.specs.declared.Refusal.the-variants.{NoRoom, AllUsed}
-use Rattle.set.specs.Operations.{keyEnd, codeOf, numberOf, Call, gives, refuses, lengthGood, insertAnswer, insertWords}
-use Rattle.set.specs.Set.{Passing, member, room, needed, OneMore, Inserted, key-present, room-lacking, inserted}
+use Rattle.set.specs.Operations.{keyEnd, codeOf, numberOf, Call, lengthGood, insertAnswer}
+use Rattle.set.specs.Set.{Passing, member, room, needed, Inserted, key-present, room-lacking, inserted}
 use Rattle.set.proofs.Promises.{Words32, passing-words, passing-length, member-once, insert-says, insert-done, insert-passing}
-use Rattle.ledger.specs.Ledger.{argumentsGood, markKey, lowestFrom, marked, asked, maySend}
+use Rattle.ledger.specs.Ledger.{argumentsGood, markKey, lowestFrom, asked, maySend}
 use Rattle.ledger.specs.Sends.{ArgumentsIn, AllMarked, Lowest, SendEnds, sends-15, sends-1, sends-2, sends-16, sends-7, sends-0, SendCodes, Sent}
 use Rattle.ledger.proofs.Arguments.{arguments-good-is, key-from, key-small}
 use Rattle.ledger.proofs.Judging.{Judged, outside, no-length, no-pool, goes-on, judged-ends}

@@ -1,10 +1,10 @@
 -- 02 (iv) as sentences (RULES 17): when a text may go, what clearing leaves, and every code with its cause. That the calls of Ledger.antt are these
 -- is proved in proofs/.
 use mathlib.Core.Path.{_≡_}
-use mathlib.Core.Logic.{_↔_, _≢_}
+use mathlib.Core.Logic.{_↔_}
 use mathlib.Core.Bool.{true, false}
 use mathlib.Core.List.{List}
-use Prim.Native.Nat.{ℕ, zero, suc, _+_, _≤_, _<_}
+use Prim.Native.Nat.{ℕ, _+_, _≤_, _<_}
 use Rattle.tree.specs.declared.Answer.the-variants.{Done}
 use Rattle.tree.specs.declared.Refusal.the-variants.{PoolLength, RulesBroken, NoRoom, OutOfRange, AllUsed}
 use Rattle.set.specs.Operations.{Call, gives, refuses, lengthGood}

@@ -9,9 +9,9 @@ use tree::Answer;
 use tree::Refusal;
 ghost use mathlib.Core.Path.{_≡_};
 ghost use Prim.Native.Nat.{_+_, _≤_, _<_};
-ghost use Rattle.set.specs.Operations.{keyEnd, codeOf};
+ghost use Rattle.set.specs.Operations.{keyEnd};
 ghost use Rattle.set.specs.Set.{Passing};
-ghost use Rattle.ledger.specs.Ledger.{mostAttempts, noticeGood, argumentsGood, noticeKeys, markKey, lowestFrom, asked, maySend, clearedAt, clearedFrom, clearNotice};
+ghost use Rattle.ledger.specs.Ledger.{mostAttempts, noticeGood, argumentsGood, noticeKeys, lowestFrom, asked, maySend, clearedAt, clearedFrom, clearNotice};
 
 // 02 (iv): "A notice number from 1 to 65,535 and a resident number from 0 to 8,191 are given, with a limit from 1 to 7."
 pub const MOST_NOTICE: u32 = 65535;

@@ -12,7 +12,7 @@ use Rattle.tree.proofs.Updated.{insert-sound, delete-sound}
 use Rattle.tree.proofs.StepState.{step-sound-state}
 use Rattle.tree.proofs.Settling.{settle-sound-state}
 use Rattle.format.specs.declared.Audited.{Audited}
-use Rattle.format.specs.Words.{headerOf, slotsIn, lengthGood}
+use Rattle.format.specs.Words.{headerOf, lengthGood}
 use Rattle.format.specs.Shows.{PoolShows}
 use Rattle.format.specs.Audit.{stateOf, auditCode}
 use Rattle.format.proofs.Rules.{rules-show, show-rules}

@@ -11,7 +11,7 @@ use borrow.Author.Tests.{eq-eqb, ne-eqb, le-leb, lt-leb}
 use native.Mathlib.Omega.{arith}
 use native.Mathlib.Numerals.{sub-one}
 use Prim.Native.Nat.{ℕ, zero, suc, _-_, _≤_, _<_}
-use Rattle.tree.specs.Tree.{Tree, leaf, node, slotOf, size}
+use Rattle.tree.specs.Tree.{Tree, slotOf, size}
 use Rattle.tree.specs.Updates.{reach, reachedSlot}
 use Rattle.tree.proofs.Tests.{either-way}
 use Rattle.tree.proofs.Spans.{besideOf}

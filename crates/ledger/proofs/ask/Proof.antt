@@ -1,6 +1,5 @@
 -- `ask` meets its contract: each return is the answer that the attempt and the insert before it pick (Asking.antt). Assumes nothing.
-use mathlib.Core.Path.{_≡_, refl, ap, sym, _∙_}
-use mathlib.Core.Logic.{_≢_}
+use mathlib.Core.Path.{refl, ap, sym, _∙_}
 use native.Mathlib.Omega.{arith}
 use borrow.Author.Needs.{needs}
 use Rattle.set.specs.Operations.{codeOf}

@@ -1,5 +1,5 @@
 -- `clear_at` meets its contract: each return is the case that the attempt and the delete before it pick (Cleared.antt). Assumes nothing.
-use mathlib.Core.Path.{_≡_, refl, ap, sym, _∙_}
+use mathlib.Core.Path.{refl, ap, sym, _∙_}
 use borrow.Author.Needs.{needs}
 use Rattle.set.specs.Operations.{codeOf}
 use Rattle.ledger.proofs.Cleared.{at-attempt-0, at-kept, at-gone}

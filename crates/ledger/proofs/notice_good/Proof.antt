@@ -1,6 +1,5 @@
 -- `notice_good` meets its contract, test by test. Assumes nothing.
 use mathlib.Core.Path.{sym}
-use native.Mathlib.Omega.{arith}
 use Rattle.ledger.proofs.Arguments.{notice-low, notice-from-one}
 use Rattle.ledger.proofs.notice_good.Statement.{statement}
 use Rattle.ledger.proofs.notice_good.Tie as tie

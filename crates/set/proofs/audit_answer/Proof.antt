@@ -1,6 +1,5 @@
 -- `audit_answer` meets its contract: each arm is the case of `auditedAnswer` that what `examine` found picks. Assumes nothing.
-use Rattle.set.specs.Operations.{auditAnswer, auditedAnswer}
-use mathlib.Core.Path.{_≡_, ap, sym, _∙_}
+use Rattle.set.specs.Operations.{auditAnswer}
 use borrow.Author.Needs.{needs}
 use Rattle.set.proofs.audit_answer.Statement.{statement}
 use Rattle.set.proofs.audit_answer.Tie as tie
