@@ -9,3 +9,4 @@ pub mod History
 pub mod Texts
 pub mod StepsInBatches
 pub mod StepsLeft
+pub mod Worked
