@@ -36,9 +36,9 @@ send-small p n r l words = go (send-ends p n r l words)
     go (sends-15 o) = omega arith
     go (sends-1 i k) = omega arith
     go (sends-2 i k f) = omega arith
-    go (sends-16 i k g m) = omega arith
-    go (sends-7 i k g w f) = omega arith
-    go (sends-0 i k g w f q m) = omega (arith, w .to-limit, i .few)
+    go (sends-16 i g m) = omega arith
+    go (sends-7 i g w f) = omega arith
+    go (sends-0 i g w f q m) = omega (arith, w .to-limit, i .few)
 
 -- the word, as a host takes it apart
 abbrev pub sendWord : List ℕ → (n r l : ℕ) → ℕ

@@ -1,7 +1,7 @@
 -- No more than the allowed number of texts, over the sequences of all calls. Between the calls of the send limit, of any notices, residents and
 -- limits, there may stand batch calls with searches, steps, settles, inserts and deletes of other keys, refused calls, and restarts. From any pool
--- that passes the audit the yes answers to a notice and resident since that notice was last cleared are at most m, if each was given under a
--- limit of at most m (`texts-in-calls`); with one limit and no clearing all of them are at most that limit (`yes-at-most`), and so from an empty
+-- that passes the audit the yes answers to a notice and resident since that notice was last cleared are at most m, if each of those was given
+-- under a limit of at most m (`texts-in-calls`); with one limit and no clearing all of them are at most that limit (`yes-at-most`), and so from an empty
 -- set (`texts-from-empty`).
 -- Why: such calls are a sequence as crate ledger has them (`calls-sending`): what stands between leaves a pool that passes, and takes none of the
 -- marks, since what the log tells of a key stays as long as nothing takes it. Assumes nothing.
@@ -22,8 +22,8 @@ use Rattle.format.specs.Audit.{stateOf}
 use Rattle.pool.specs.Results.{prepareCode, preparedWords}
 use Rattle.set.specs.Set.{Passing, member}
 use Rattle.set.proofs.Promises.{member-once}
-use Rattle.ledger.specs.Ledger.{mostResident, mostAttempts, markKey}
-use Rattle.ledger.specs.Sequences.{LedgerCall, send-call, clear-call, sendCall, clearCall, textsAfter, textsFrom, texts, Within, AllWithin}
+use Rattle.ledger.specs.Ledger.{mostAttempts, markKey}
+use Rattle.ledger.specs.Sequences.{LedgerCall, send-call, clear-call, sendCall, clearCall, clears, isYes, textsAfter, textsFrom, texts, Within, AllWithin}
 use Rattle.ledger.specs.Sequences.{KeepsMarks, Sending, no-send, then-send as ledger-send, then-clear as ledger-clear, then-other}
 use Rattle.ledger.proofs.Limit.{texts-at-most}
 use Rattle.demands.specs.Calls.{Entry, of-command, of-ledger, logOf, Calls, no-call, then-call, then-restart, then-send, then-clear, NoneTakes}
@@ -102,15 +102,18 @@ module _ (n r : ℕ) where
 
   -- With no clearing of the notice all yes answers count ..
   texts-all : (l : ℕ) (calls : List LedgerCall) (before : ℕ) → OneLimit n l calls → textsFrom n r before calls ≡ before + yesAnswers n r calls
-  unfolding textsFrom textsAfter OneLimit yesAnswers one
+  unfolding textsFrom textsAfter clears isYes OneLimit yesAnswers one
   texts-all l [] before h = omega arith
   texts-all l (send-call m s k code a ∷ calls) before h = texts-all l calls _ (h .1) ∙ go (eqb m n && eqb s r && eqb code 0)
     where
       go : (b : Bool) → elim b [ true ↦ suc before | false ↦ before ] + yesAnswers n r calls ≡ before + (one b + yesAnswers n r calls)
       go true = omega arith
       go false = omega arith
-  texts-all l (clear-call m code count ∷ calls) before h = rw (not-cleared, textsAfter) (texts-all l calls before (h .1))
+  texts-all l (clear-call m code count ∷ calls) before h = rw (not-cleared, textsAfter) (texts-all l calls before (h .1) ∙ none)
     where
+      none : before + yesAnswers n r calls ≡ before + (0 + yesAnswers n r calls)
+      none = omega arith
+
       not-cleared : (eqb m n && eqb code 0) ≡ false
       not-cleared = same-or-not m n (λ e. rw (ne-eqb code 0 (h .0 e), and-false)) (λ d. rw (ne-eqb m n d))
 
@@ -118,22 +121,21 @@ module _ (n r : ℕ) where
   one-within : (l : ℕ) (calls : List LedgerCall) → OneLimit n l calls → AllWithin n r l calls
   unfolding OneLimit AllWithin Within
   one-within l [] h = tt
-  one-within l (send-call m s k code a ∷ calls) h = (λ e f z. omega (arith, h .0), one-within l calls (h .1))
-  one-within l (clear-call m code count ∷ calls) h = (tt, one-within l calls (h .1))
+  one-within l (send-call m s k code a ∷ calls) h = (λ u e f z. omega (arith, h .0), one-within l calls (h .1))
+  one-within l (clear-call m code count ∷ calls) h = (λ u. tt, one-within l calls (h .1))
 
 -- The send limit, from any pool that passes the audit.
-module _ (n r : ℕ) (resident-in : r ≤ mostResident) {p q : List ℕ} {log : List Entry} (g : Passing p) (calls : Calls p log q)
-    (stay : NoMarkDeleted n r log) where
+module _ (n r : ℕ) {p q : List ℕ} {log : List Entry} (g : Passing p) (calls : Calls p log q) (stay : NoMarkDeleted n r log) where
   -- since the notice was last cleared
-  pub texts-in-calls : (m : ℕ) → m ≤ mostAttempts → AllWithin n r m (ledgerCalls log) → texts n r (ledgerCalls log) ≤ m
-  texts-in-calls m few within = texts-at-most resident-in few g (calls-sending n r g calls stay) within
+  pub texts-in-calls : (m : ℕ) → AllWithin n r m (ledgerCalls log) → texts n r (ledgerCalls log) ≤ m
+  texts-in-calls m within = texts-at-most g (calls-sending n r g calls stay) within
 
   -- "with one limit and no clearing"
-  pub yes-at-most : (l : ℕ) → l ≤ mostAttempts → OneLimit n l (ledgerCalls log) → yesAnswers n r (ledgerCalls log) ≤ l
-  yes-at-most l few one-limit =
-      omega (arith, texts-all n r l (ledgerCalls log) 0 one-limit, texts-in-calls l few (one-within n r l (ledgerCalls log) one-limit))
+  pub yes-at-most : (l : ℕ) → OneLimit n l (ledgerCalls log) → yesAnswers n r (ledgerCalls log) ≤ l
+  yes-at-most l one-limit =
+      omega (arith, texts-all n r l (ledgerCalls log) 0 one-limit, texts-in-calls l (one-within n r l (ledgerCalls log) one-limit))
 
 -- "Over any sequence of such calls with one limit and no clearing, from an empty set, each notice and resident get at most that many yes answers."
 pub texts-from-empty : (w : List ℕ) {q : List ℕ} {log : List Entry} → prepareCode w ≡ 0 → Calls (preparedWords w) log q
-    → (n r l : ℕ) → r ≤ mostResident → l ≤ mostAttempts → NoMarkDeleted n r log → OneLimit n l (ledgerCalls log) → yesAnswers n r (ledgerCalls log) ≤ l
-texts-from-empty w z calls n r l i j stay one-limit = yes-at-most n r i (prepared-empty w z .0) calls stay l j one-limit
+    → (n r l : ℕ) → NoMarkDeleted n r log → OneLimit n l (ledgerCalls log) → yesAnswers n r (ledgerCalls log) ≤ l
+texts-from-empty w z calls n r l stay one-limit = yes-at-most n r (prepared-empty w z .0) calls stay l one-limit

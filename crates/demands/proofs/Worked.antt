@@ -15,9 +15,8 @@ use Rattle.format.specs.Words.{header, slot, freeSlot, headerOf, putHeader, slo
 use Rattle.format.specs.Audit.{isSlot, follow, chain, chainEnds, treeFound, chainFound, slotsOf, bare, all, allFrom, same, rule-once, freeWords, rule-free, children, rule-children, leafKeys, routed, rule-order, wellWeighed, rootWeighed, rule-weights, sumsOf, rootSums, rule-sums, rule-spare, rules, allTrue, rulesUnder, foundWeight, treeOf, topOf, stateUnder, audited}
 use Rattle.format.proofs.Rows.{pool, Row, row, allGiven, allSaid}
 use Rattle.updates.specs.Updating.{toward, descend, wayTo, taken, freed, freedWords, weightUnder, insertRoot, split, insertBeside, insertAtLeaf, insertUnder, insertWords, deleteRoot, siblingOf, joined, deleteBelow, deleteLeaf, deleteAtLeaf, deleteUnder, deleteWords}
-use Rattle.set.specs.Set.{member, room, needed}
-use Rattle.set.specs.Operations.{auditAnswer}
-use Rattle.ledger.specs.Ledger.{noticeGood, argumentsGood, markKey, judged, lowestFrom, marked, asked, maySend, clearedAt, clearedFrom}
+use Rattle.set.specs.Inside.{member, room, needed, auditAnswer}
+use Rattle.ledger.specs.Ledger.{noticeGood, argumentsGood, markKey, unless, rangeAnswer, judged, lowestFrom, usedAnswer, roomAnswer, marked, asked, maySend, clearedAt, clearedFrom}
 
 -- notice 4411, resident 17, attempts 1 and 2; resident 18, attempt 1
 abbrev k1 : ℕ
@@ -69,5 +68,5 @@ cases =
     ∷ []
 
 pub sends-worked : allGiven cases ≡ allSaid cases
-unfolding cases allGiven allSaid one countIn keys slotOf newSlot upwards prepared keysOf slotsNeeded nodes levelTop headerOf putHeader slotAt putSlot slotsIn lengthGood inTree inChain inTop rootOf shownSlot spareOf shownHeader slotsFrom wordsOf isSlot follow chain chainEnds treeFound chainFound slotsOf bare all allFrom same rule-once freeWords rule-free children rule-children leafKeys routed rule-order wellWeighed rootWeighed rule-weights sumsOf rootSums rule-sums rule-spare rules allTrue rulesUnder foundWeight treeOf topOf stateUnder audited toward descend wayTo taken freed freedWords weightUnder insertRoot split insertBeside insertAtLeaf insertUnder insertWords deleteRoot siblingOf joined deleteBelow deleteLeaf deleteAtLeaf deleteUnder deleteWords member room needed auditAnswer noticeGood argumentsGood markKey judged lowestFrom marked asked maySend clearedAt clearedFrom
+unfolding cases allGiven allSaid one countIn keys slotOf newSlot upwards prepared keysOf slotsNeeded nodes levelTop headerOf putHeader slotAt putSlot slotsIn lengthGood inTree inChain inTop rootOf shownSlot spareOf shownHeader slotsFrom wordsOf isSlot follow chain chainEnds treeFound chainFound slotsOf bare all allFrom same rule-once freeWords rule-free children rule-children leafKeys routed rule-order wellWeighed rootWeighed rule-weights sumsOf rootSums rule-sums rule-spare rules allTrue rulesUnder foundWeight treeOf topOf stateUnder audited toward descend wayTo taken freed freedWords weightUnder insertRoot split insertBeside insertAtLeaf insertUnder insertWords deleteRoot siblingOf joined deleteBelow deleteLeaf deleteAtLeaf deleteUnder deleteWords member room needed auditAnswer noticeGood argumentsGood markKey unless rangeAnswer judged lowestFrom usedAnswer roomAnswer marked asked maySend clearedAt clearedFrom
 sends-worked = refl

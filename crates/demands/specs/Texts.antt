@@ -8,7 +8,7 @@ use lib.Dec.{eqb}
 use Prim.Native.Nat.{ℕ, _+_, _≤_}
 use Rattle.tree.specs.Tree.{one}
 use Rattle.ledger.specs.Ledger.{mostAttempts, markKey}
-use Rattle.ledger.specs.Sequences.{LedgerCall, send-call, clear-call}
+use Rattle.ledger.specs.Sequences.{LedgerCall, send-call, clear-call, isYes}
 use Rattle.demands.specs.Calls.{Entry, of-command, of-ledger, takes}
 
 -- the calls of the send limit, in their order
@@ -33,5 +33,4 @@ OneLimit n l (clear-call m code count ∷ calls) = (m ≡ n → code ≢ 0) × O
 -- all the "yes answers" that notice n and resident r got
 unfoldable pub yesAnswers : (n r : ℕ) → List LedgerCall → ℕ
 yesAnswers n r [] = 0
-yesAnswers n r (send-call m s l code a ∷ calls) = one (eqb m n && eqb s r && eqb code 0) + yesAnswers n r calls
-yesAnswers n r (clear-call m code count ∷ calls) = yesAnswers n r calls
+yesAnswers n r (c ∷ calls) = one (isYes n r c) + yesAnswers n r calls

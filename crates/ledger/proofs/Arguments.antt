@@ -39,7 +39,7 @@ module _ (n r l : ℕ) where
   limit-decides h i j = rw (h, argumentsGood, le-leb r mostResident i, le-leb 1 l j)
 
 -- what both tests of an `and` say
-both : (a b : Bool) → (a && b) ≡ true → (a ≡ true) × (b ≡ true)
+pub both : (a b : Bool) → (a && b) ≡ true → (a ≡ true) × (b ≡ true)
 both true b h = (refl, h)
 both false b h = absurd (false≢true h)
 

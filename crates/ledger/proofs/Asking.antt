@@ -11,12 +11,13 @@ use native.Mathlib.Decide.{ℕ-discrete}
 use native.Mathlib.Numerals.{sub-one, add-one}
 use Prim.Native.Nat.{ℕ, zero, suc, _+_, _-_, _≤_, _<_}
 use Rattle.tree.specs.declared.Answer.{Answer}
-use Rattle.tree.specs.declared.Answer.the-variants.{Done}
+use Rattle.tree.specs.declared.Answer.the-variants.{Done, Refused}
 use Rattle.tree.specs.declared.Refusal.the-variants.{NoRoom, AllUsed}
 use Rattle.set.specs.Operations.{keyEnd, codeOf, gives, refuses, searchAnswer, insertAnswer, insertWords}
-use Rattle.set.specs.Set.{Passing, member, Searched, here, nowhere, Inserted, key-present, room-lacking, inserted}
+use Rattle.set.specs.Set.{Passing, member, room, needed, Searched, here, nowhere, Inserted, key-present, room-lacking, inserted}
 use Rattle.set.proofs.Promises.{search-says, search-codes, insert-says}
-use Rattle.ledger.specs.Ledger.{lowestFrom, marked, asked}
+use Rattle.ledger.specs.Ledger.{lowestFrom, unless, usedAnswer, roomAnswer, marked, asked}
+use Rattle.ledger.proofs.Judging.{unless-refused, unless-done}
 
 module _ (first : ℕ) (p : List ℕ) where
   pub lowest-here : (n a : ℕ) → 0 < n → member (first + a) p ≡ 0 → lowestFrom n a first p ≡ a
@@ -59,6 +60,23 @@ lowest-found first p (suc n) a = at (ℕ-discrete (member (first + a) p) 0) (low
     at (yes e) f = rw (eq-eqb _ _ e, lowestFrom) (lowest {r = a} (omega arith) (omega arith) e (λ b h i. absurd (omega arith)))
     at (no m) f = rw (ne-eqb _ _ m, lowestFrom) (go m f)
 
+-- 16 and 7, by their causes
+used-all : (a : ℕ) → a ≡ 0 → usedAnswer a ≡ Refused AllUsed
+unfolding usedAnswer
+used-all a e = rw (eq-eqb _ _ e, usedAnswer)
+
+used-not : (a : ℕ) → a ≢ 0 → usedAnswer a ≡ Done 0
+unfolding usedAnswer
+used-not a n = rw (ne-eqb _ _ n, usedAnswer)
+
+room-lacks : (p : List ℕ) → room p < needed p → roomAnswer p ≡ Refused NoRoom
+unfolding roomAnswer
+room-lacks p h = rw (lt-leb _ _ h, roomAnswer)
+
+room-there : (p : List ℕ) → needed p ≤ room p → roomAnswer p ≡ Done 0
+unfolding roomAnswer
+room-there p h = rw (le-leb _ _ h, roomAnswer)
+
 -- What is answered, where the attempt a was found.
 module _ (p : List ℕ) (first l a : ℕ) (is : a ≡ lowestFrom l 1 first p) where
   asked-at : asked p first l ≡ marked p first a
@@ -70,7 +88,12 @@ module _ (p : List ℕ) (first l a : ℕ) (is : a ≡ lowestFrom l 1 first p) wh
 
   pub asked-used : a ≡ 0 → asked p first l ≡ refuses AllUsed p
   unfolding marked
-  asked-used e = asked-at ∙ rw (e, marked)
+  asked-used e = asked-at ∙ rw (used-all a e) (unless-refused (Refused AllUsed) p _ (λ z. omega arith))
+
+  -- an attempt was found: it is marked if there is room
+  asked-on : a ≢ 0 → asked p first l ≡ unless (roomAnswer p) p (gives (Done a) (insertWords p (first + a)))
+  unfolding marked
+  asked-on n = asked-at ∙ rw (used-not a n) (unless-done (Done 0) p _ refl)
 
   pub found-within : a ≤ l
   found-within = go found
@@ -91,22 +114,20 @@ module _ (p : List ℕ) (first l a : ℕ) (is : a ≡ lowestFrom l 1 first p) wh
     says = insert-says g (first + a) (omega (arith, found-within))
 
     pub asked-lacking : codeOf (insertAnswer p (first + a)) ≢ 0 → (asked p first l ≡ refuses NoRoom p) × (insertWords p (first + a) ≡ p)
-    unfolding marked
     asked-lacking = go says
       where
         go : {b : Answer} {q : List ℕ} → Inserted (first + a) p b q → codeOf b ≢ 0 → (asked p first l ≡ refuses NoRoom p) × (q ≡ p)
         go (key-present i) c = absurd (omega (arith, unmarked))
-        go (room-lacking i h) c = (asked-at ∙ rw (ne-eqb _ _ n, marked, lt-leb _ _ h), refl)
+        go (room-lacking i h) c = (asked-on n ∙ rw (room-lacks p h) (unless-refused (Refused NoRoom) p _ (λ z. omega arith)), refl)
         go (inserted i h m) c = absurd (c refl)
 
     pub asked-yes : codeOf (insertAnswer p (first + a)) ≡ 0 → asked p first l ≡ gives (Done a) (insertWords p (first + a))
-    unfolding marked
     asked-yes = go says
       where
         go : {b : Answer} {q : List ℕ} → Inserted (first + a) p b q → codeOf b ≡ 0 → asked p first l ≡ gives (Done a) (insertWords p (first + a))
         go (key-present i) c = absurd (omega arith)
         go (room-lacking i h) c = absurd (omega arith)
-        go (inserted i h m) c = asked-at ∙ rw (ne-eqb _ _ n, marked, le-leb _ _ h)
+        go (inserted i h m) c = asked-on n ∙ rw (room-there p h) (unless-done (Done 0) p _ refl)
 
 -- What the search says of a key, by its code.
 module _ {p : List ℕ} (g : Passing p) (x : ℕ) where

@@ -1,6 +1,6 @@
 -- Clearing, on any words and any notice: how it ends (`clear-ends`); each code exactly when its cause is there (`clear-codes`); a refusal gives
 -- number 0 and changes no word (`clear-refused`); else the notice's marks are gone, every other key is as before, keys with attempt 0 and
--- other notices' marks among them, and the number is how many went (`clear-says`, `clear-counts`); where none went no word changes
+-- other notices' marks among them, and the number is how many went (`clear-says`); where none went no word changes
 -- (`clear-none`).
 -- Why: `from-says`, over the notice's 65,536 keys, of which `mark-of` says which are marks. Assumes nothing.
 use mathlib.Core.Path.{_≡_, refl, sym, _∙_}
@@ -16,7 +16,7 @@ use Rattle.set.proofs.Promises.{Words32, passing-length}
 use Rattle.ledger.specs.Ledger.{noticeKeys, noticeGood, markKey, attemptOf, clearedFrom, clearing, clearNotice}
 use Rattle.ledger.specs.Sends.{NoticeIn, IsMark, Cleaned, ClearEnds, clears-15, clears-1, clears-2, clears-0, ClearCodes}
 use Rattle.ledger.proofs.Arguments.{notice-good-is, mark-of}
-use Rattle.ledger.proofs.Judging.{Judged, outside, no-length, no-pool, goes-on, judged-ends}
+use Rattle.ledger.proofs.Judging.{Judged, outside, no-length, no-pool, goes-on, judged-ends, early-outside, early-length, early-broken, early-none, wrong-not-passing}
 use Rattle.ledger.proofs.Cleared.{FromSays, from-says}
 
 -- A notice of a pool that passes.
@@ -49,35 +49,18 @@ module _ (p : List ℕ) (n : ℕ) (words : Words32 p) where
       go (outside e) = clears-15 (λ i. false≢true (sym e ∙ notice-good-is n .1 i))
       go (no-length e h) = clears-1 (in-range e) h
       go (no-pool e h f) = clears-2 (in-range e) h f
-      go (goes-on e h g) = clears-0 h (cleaned (in-range e) g)
+      go (goes-on e g) = clears-0 (cleaned (in-range e) g)
 
   pub clear-codes : ClearCodes p n (codeOf ((clearNotice p n) .answer))
   clear-codes = go clear-ends
     where
       go : {c : Call} → ClearEnds p n c → ClearCodes p n (codeOf (c .answer))
-      go (clears-15 o) = record {
-        done-when = (λ z. absurd (omega arith), λ h. absurd (o (h .0)));
-        outside-when = (λ z. o, λ h. refl);
-        length-when = (λ z. absurd (omega arith), λ h. absurd (o (h .0)));
-        broken-when = (λ z. absurd (omega arith), λ h. absurd (o (h .0)));
-      }
-      go (clears-1 i k) = record {
-        done-when = (λ z. absurd (omega arith), λ h. absurd (false≢true (sym k ∙ passing-length (h .1))));
-        outside-when = (λ z. absurd (omega arith), λ h. absurd (h i));
-        length-when = (λ z. (i, k), λ h. refl);
-        broken-when = (λ z. absurd (omega arith), λ h. absurd (false≢true (sym k ∙ h .1)));
-      }
-      go (clears-2 i k f) = record {
-        done-when = (λ z. absurd (omega arith), λ h. absurd (f (h .1)));
-        outside-when = (λ z. absurd (omega arith), λ h. absurd (h i));
-        length-when = (λ z. absurd (omega arith), λ h. absurd (false≢true (sym (h .1) ∙ k)));
-        broken-when = (λ z. (i, k, f), λ h. refl);
-      }
-      go (clears-0 k w) = record {
+      go (clears-15 o) = record { early = early-outside o; done-when = (λ z. absurd (omega arith), λ h. absurd (o (h .0))) }
+      go (clears-1 i k) = record { early = early-length i k; done-when = (λ z. absurd (omega arith), λ h. absurd (wrong-not-passing k (h .1))) }
+      go (clears-2 i k f) = record { early = early-broken i k f; done-when = (λ z. absurd (omega arith), λ h. absurd (f (h .1))) }
+      go (clears-0 w) = record {
+        early = early-none (w .notice-in) (w .passed) 0 (λ z. omega arith) (λ z. omega arith) (λ z. omega arith);
         done-when = (λ z. (w .notice-in, w .passed), λ h. refl);
-        outside-when = (λ z. absurd (omega arith), λ h. absurd (h (w .notice-in)));
-        length-when = (λ z. absurd (omega arith), λ h. absurd (false≢true (sym (h .1) ∙ k)));
-        broken-when = (λ z. absurd (omega arith), λ h. absurd (h .2 (w .passed)));
       }
 
   -- "each gives 0 and changes nothing"
@@ -88,7 +71,7 @@ module _ (p : List ℕ) (n : ℕ) (words : Words32 p) where
       go (clears-15 o) d = (refl, refl)
       go (clears-1 i k) d = (refl, refl)
       go (clears-2 i k f) d = (refl, refl)
-      go (clears-0 k w) d = absurd (d refl)
+      go (clears-0 w) d = absurd (d refl)
 
   pub clear-says : codeOf ((clearNotice p n) .answer) ≡ 0 → Cleaned p n (numberOf ((clearNotice p n) .answer)) ((clearNotice p n) .left)
   clear-says = go clear-ends
@@ -97,7 +80,7 @@ module _ (p : List ℕ) (n : ℕ) (words : Words32 p) where
       go (clears-15 o) z = absurd (omega arith)
       go (clears-1 i k) z = absurd (omega arith)
       go (clears-2 i k f) z = absurd (omega arith)
-      go (clears-0 k w) z = w
+      go (clears-0 w) z = w
 
   pub clear-passing : Passing p → Passing ((clearNotice p n) .left)
   clear-passing g = go clear-ends
@@ -106,7 +89,7 @@ module _ (p : List ℕ) (n : ℕ) (words : Words32 p) where
       go (clears-15 o) = g
       go (clears-1 i k) = g
       go (clears-2 i k f) = g
-      go (clears-0 k w) = w .passes
+      go (clears-0 w) = w .passes
 
   -- where no mark went, no word changed
   pub clear-none : numberOf ((clearNotice p n) .answer) ≡ 0 → (clearNotice p n) .left ≡ p
@@ -117,7 +100,7 @@ module _ (p : List ℕ) (n : ℕ) (words : Words32 p) where
       go (outside e) z = refl
       go (no-length e h) z = refl
       go (no-pool e h f) z = refl
-      go (goes-on e h g) z = from-says noticeKeys (markKey n 0 0) g .none-kept z
+      go (goes-on e g) z = from-says noticeKeys (markKey n 0 0) g .none-kept z
 
   -- how many went, at most
   pub clear-few : numberOf ((clearNotice p n) .answer) ≤ noticeKeys
@@ -128,4 +111,4 @@ module _ (p : List ℕ) (n : ℕ) (words : Words32 p) where
       go (outside e) = omega arith
       go (no-length e h) = omega arith
       go (no-pool e h f) = omega arith
-      go (goes-on e h g) = from-says noticeKeys (markKey n 0 0) g .few
+      go (goes-on e g) = from-says noticeKeys (markKey n 0 0) g .few

@@ -9,19 +9,19 @@ use mathlib.Core.Logic.{_≢_, _⊎_, inl, inr}
 use mathlib.Core.Bool.{true, false≢true}
 use mathlib.Core.List.{List}
 use native.Mathlib.Omega.{arith}
-use Prim.Native.Nat.{ℕ, _+_, _≤_, _<_}
+use Prim.Native.Nat.{ℕ, zero, suc, pred, _+_, _≤_, _<_}
 use Rattle.tree.specs.declared.Answer.{Answer}
 use Rattle.set.specs.Operations.{keyEnd, codeOf, numberOf, Call, lengthGood, insertAnswer}
 use Rattle.set.specs.Set.{Passing, member, room, needed, Inserted, key-present, room-lacking, inserted}
 use Rattle.set.proofs.Promises.{Words32, passing-words, passing-length, member-once, insert-says, insert-done, insert-passing}
 use Rattle.ledger.specs.Ledger.{argumentsGood, markKey, lowestFrom, asked, maySend}
-use Rattle.ledger.specs.Sends.{ArgumentsIn, AllMarked, Lowest, SendEnds, sends-15, sends-1, sends-2, sends-16, sends-7, sends-0, SendCodes, Sent}
+use Rattle.ledger.specs.Sends.{ArgumentsIn, marksTo, AllMarked, Lowest, SendEnds, sends-15, sends-1, sends-2, sends-16, sends-7, sends-0, SendCodes, Sent}
 use Rattle.ledger.proofs.Arguments.{arguments-good-is, key-from, key-small}
-use Rattle.ledger.proofs.Judging.{Judged, outside, no-length, no-pool, goes-on, judged-ends}
+use Rattle.ledger.proofs.Judging.{Judged, outside, no-length, no-pool, goes-on, judged-ends, early-outside, early-length, early-broken, early-none, wrong-not-passing}
 use Rattle.ledger.proofs.Asking.{Found, all-marked, lowest, lowest-found, asked-used, asked-lacking, asked-yes}
 
 -- In a pool that passes, with arguments in their ranges.
-module _ {p : List ℕ} {n r l : ℕ} (args : ArgumentsIn n r l) (good : lengthGood p ≡ true) (g : Passing p) where
+module _ {p : List ℕ} {n r l : ℕ} (args : ArgumentsIn n r l) (g : Passing p) where
   abbrev first : ℕ
   first = markKey n r 0
 
@@ -29,11 +29,20 @@ module _ {p : List ℕ} {n r l : ℕ} (args : ArgumentsIn n r l) (good : lengthG
   met : (b : ℕ) → member (first + b) p ≢ 0 → member (markKey n r b) p ≡ 1
   met b h = rw (← key-from n r b) (omega (arith, member-once g (first + b)))
 
+  -- where all of attempts 1 to m are marked there are m marks
+  marks-all : (m : ℕ) → ((b : ℕ) → 1 ≤ b → b ≤ m → member (markKey n r b) p ≡ 1) → marksTo m n r p ≡ m
+  unfolding marksTo
+  marks-all zero h = refl
+  marks-all (suc m) h = omega (arith, marks-all m (λ b i j. h b i (omega arith)), h (suc m) (omega arith) (omega arith))
+
   -- the attempt a is the lowest that is not marked
   module _ (a : ℕ) (low : 1 ≤ a) (high : a < 1 + l) (unmarked : member (first + a) p ≡ 0) (lower : (b : ℕ) → 1 ≤ b → b < a → member (first + b) p ≢ 0)
       (is : a ≡ lowestFrom l 1 first p) where
+    lower-are : (b : ℕ) → 1 ≤ b → b < a → member (markKey n r b) p ≡ 1
+    lower-are b i j = met b (lower b i j)
+
     is-lowest : Lowest p n r l a
-    is-lowest = record { from-one = low; to-limit = omega arith; unmarked = rw (← key-from n r a) unmarked; lower-marked = λ b i j. met b (lower b i j) }
+    is-lowest = record { from-one = low; to-limit = omega arith; unmarked = rw (← key-from n r a) unmarked; lower-marked = lower-are; lower-count = omega (arith, marks-all (pred a) (λ b i j. lower-are b i (omega arith))) }
 
     small : markKey n r a < keyEnd
     small = key-small n r a (args .notice-in .to-last) (args .resident-in) (omega (arith, args .few))
@@ -51,16 +60,16 @@ module _ {p : List ℕ} {n r l : ℕ} (args : ArgumentsIn n r l) (good : lengthG
         go (key-present i) e = absurd (omega (arith, is-lowest .unmarked))
         go (room-lacking i h) e =
             rw (asked-lacking p first l a is g (λ z. omega arith) fits (λ z. omega (arith, code, ap codeOf e)) .0)
-            (sends-7 args good g is-lowest h)
+            (sends-7 args g is-lowest h)
         go (inserted i h m) e =
             rw (asked-yes p first l a is g (λ z. omega arith) fits (code ∙ ap codeOf e), key-from n r a)
-            (sends-0 args good g is-lowest h (insert-passing g (markKey n r a) small) (insert-done g (markKey n r a) small e .1))
+            (sends-0 args g is-lowest h (insert-passing g (markKey n r a) small) (insert-done g (markKey n r a) small e .1))
 
   asked-ends : SendEnds p n r l (asked p first l)
   asked-ends = go (lowest-found first p l 1) refl
     where
       go : {a : ℕ} → Found first p l 1 a → lowestFrom l 1 first p ≡ a → SendEnds p n r l (asked p first l)
-      go (all-marked h) e = rw (asked-used p first l 0 (sym e) refl) (sends-16 args good g (λ b i j. met b (h b i (omega arith))))
+      go (all-marked h) e = rw (asked-used p first l 0 (sym e) refl) (sends-16 args g (λ b i j. met b (h b i (omega arith))))
       go (lowest {r = a} i j u h) e = at-lowest a i j u h (sym e)
 
 module _ (p : List ℕ) (n r l : ℕ) (words : Words32 p) where
@@ -76,7 +85,7 @@ module _ (p : List ℕ) (n r l : ℕ) (words : Words32 p) where
       go (outside e) = sends-15 (λ i. false≢true (sym e ∙ arguments-good-is n r l .1 i))
       go (no-length e h) = sends-1 (args e) h
       go (no-pool e h f) = sends-2 (args e) h f
-      go (goes-on e h g) = asked-ends (args e) h g
+      go (goes-on e g) = asked-ends (args e) g
 
   -- Each code exactly when its cause is there.
   pub send-codes : SendCodes p n r l (codeOf ((maySend p n r l) .answer))
@@ -88,50 +97,38 @@ module _ (p : List ℕ) (n r l : ℕ) (words : Words32 p) where
 
       go : {c : Call} → SendEnds p n r l c → SendCodes p n r l (codeOf (c .answer))
       go (sends-15 o) = record {
+        early = early-outside o;
         yes-when = (λ z. absurd (omega arith), λ h. absurd (o (h .0)));
-        outside-when = (λ z. o, λ h. refl);
-        length-when = (λ z. absurd (omega arith), λ h. absurd (o (h .0)));
-        broken-when = (λ z. absurd (omega arith), λ h. absurd (o (h .0)));
         used-when = (λ z. absurd (omega arith), λ h. absurd (o (h .0)));
         lacking-when = (λ z. absurd (omega arith), λ h. absurd (o (h .0)));
       }
       go (sends-1 i k) = record {
-        yes-when = (λ z. absurd (omega arith), λ h. absurd (false≢true (sym k ∙ passing-length (h .1))));
-        outside-when = (λ z. absurd (omega arith), λ h. absurd (h i));
-        length-when = (λ z. (i, k), λ h. refl);
-        broken-when = (λ z. absurd (omega arith), λ h. absurd (false≢true (sym k ∙ h .1)));
-        used-when = (λ z. absurd (omega arith), λ h. absurd (false≢true (sym k ∙ passing-length (h .1))));
-        lacking-when = (λ z. absurd (omega arith), λ h. absurd (false≢true (sym k ∙ passing-length (h .1))));
+        early = early-length i k;
+        yes-when = (λ z. absurd (omega arith), λ h. absurd (wrong-not-passing k (h .1)));
+        used-when = (λ z. absurd (omega arith), λ h. absurd (wrong-not-passing k (h .1)));
+        lacking-when = (λ z. absurd (omega arith), λ h. absurd (wrong-not-passing k (h .1)));
       }
       go (sends-2 i k f) = record {
+        early = early-broken i k f;
         yes-when = (λ z. absurd (omega arith), λ h. absurd (f (h .1)));
-        outside-when = (λ z. absurd (omega arith), λ h. absurd (h i));
-        length-when = (λ z. absurd (omega arith), λ h. absurd (false≢true (sym (h .1) ∙ k)));
-        broken-when = (λ z. (i, k, f), λ h. refl);
         used-when = (λ z. absurd (omega arith), λ h. absurd (f (h .1)));
         lacking-when = (λ z. absurd (omega arith), λ h. absurd (f (h .1)));
       }
-      go (sends-16 i k g m) = record {
+      go (sends-16 i g m) = record {
+        early = early-none i g 16 (λ z. omega arith) (λ z. omega arith) (λ z. omega arith);
         yes-when = (λ z. absurd (omega arith), λ h. absurd (h .2 m));
-        outside-when = (λ z. absurd (omega arith), λ h. absurd (h i));
-        length-when = (λ z. absurd (omega arith), λ h. absurd (false≢true (sym (h .1) ∙ k)));
-        broken-when = (λ z. absurd (omega arith), λ h. absurd (h .2 g));
         used-when = (λ z. (i, g, m), λ h. refl);
         lacking-when = (λ z. absurd (omega arith), λ h. absurd (h .2 m));
       }
-      go (sends-7 i k g w f) = record {
+      go (sends-7 i g w f) = record {
+        early = early-none i g 7 (λ z. omega arith) (λ z. omega arith) (λ z. omega arith);
         yes-when = (λ z. absurd (omega arith), λ h. absurd (omega (arith, h .3)));
-        outside-when = (λ z. absurd (omega arith), λ h. absurd (h i));
-        length-when = (λ z. absurd (omega arith), λ h. absurd (false≢true (sym (h .1) ∙ k)));
-        broken-when = (λ z. absurd (omega arith), λ h. absurd (h .2 g));
         used-when = (λ z. absurd (omega arith), λ h. absurd (not-all w (h .2)));
         lacking-when = (λ z. (i, g, not-all w, f), λ h. refl);
       }
-      go (sends-0 i k g w f q m) = record {
+      go (sends-0 i g w f q m) = record {
+        early = early-none i g 0 (λ z. omega arith) (λ z. omega arith) (λ z. omega arith);
         yes-when = (λ z. (i, g, not-all w, f), λ h. refl);
-        outside-when = (λ z. absurd (omega arith), λ h. absurd (h i));
-        length-when = (λ z. absurd (omega arith), λ h. absurd (false≢true (sym (h .1) ∙ k)));
-        broken-when = (λ z. absurd (omega arith), λ h. absurd (h .2 g));
         used-when = (λ z. absurd (omega arith), λ h. absurd (not-all w (h .2)));
         lacking-when = (λ z. absurd (omega arith), λ h. absurd (omega (arith, h .3)));
       }
@@ -144,9 +141,9 @@ module _ (p : List ℕ) (n r l : ℕ) (words : Words32 p) where
       go (sends-15 o) d = (refl, refl)
       go (sends-1 i k) d = (refl, refl)
       go (sends-2 i k f) d = (refl, refl)
-      go (sends-16 i k g m) d = (refl, refl)
-      go (sends-7 i k g w f) d = (refl, refl)
-      go (sends-0 i k g w f q m) d = absurd (d refl)
+      go (sends-16 i g m) d = (refl, refl)
+      go (sends-7 i g w f) d = (refl, refl)
+      go (sends-0 i g w f q m) d = absurd (d refl)
 
   -- A yes: the number is the lowest unmarked attempt; the pool passes, and has that mark more and every other key as before.
   pub send-says : codeOf ((maySend p n r l) .answer) ≡ 0 → Sent p n r l (numberOf ((maySend p n r l) .answer)) ((maySend p n r l) .left)
@@ -156,9 +153,9 @@ module _ (p : List ℕ) (n r l : ℕ) (words : Words32 p) where
       go (sends-15 o) z = absurd (omega arith)
       go (sends-1 i k) z = absurd (omega arith)
       go (sends-2 i k f) z = absurd (omega arith)
-      go (sends-16 i k g m) z = absurd (omega arith)
-      go (sends-7 i k g w f) z = absurd (omega arith)
-      go (sends-0 i k g w f q m) z = record { arguments-in = i; passed = g; attempt-is = w; had-room = f; passes = q; one-more = m }
+      go (sends-16 i g m) z = absurd (omega arith)
+      go (sends-7 i g w f) z = absurd (omega arith)
+      go (sends-0 i g w f q m) z = record { arguments-in = i; passed = g; attempt-is = w; had-room = f; passes = q; one-more = m }
 
   -- The pool passes the audit afterwards, if it did before.
   pub send-passing : Passing p → Passing ((maySend p n r l) .left)
@@ -168,9 +165,9 @@ module _ (p : List ℕ) (n r l : ℕ) (words : Words32 p) where
       go (sends-15 o) = g
       go (sends-1 i k) = g
       go (sends-2 i k f) = g
-      go (sends-16 i k h m) = g
-      go (sends-7 i k h w f) = g
-      go (sends-0 i k h w f q m) = q
+      go (sends-16 i h m) = g
+      go (sends-7 i h w f) = g
+      go (sends-0 i h w f q m) = q
 
 -- **No resident gets a text again because the set is full**: then every call with arguments in their ranges that is not 16 is 7, and no word
 -- changes.
@@ -180,8 +177,8 @@ full-sends-nothing {p} g full n r l i = go (send-ends p n r l (passing-words g))
   where
     go : {c : Call} → SendEnds p n r l c → ((codeOf (c .answer) ≡ 16) ⊎ (codeOf (c .answer) ≡ 7)) × (c .left ≡ p)
     go (sends-15 o) = absurd (o i)
-    go (sends-1 j k) = absurd (false≢true (sym k ∙ passing-length g))
+    go (sends-1 j k) = absurd (wrong-not-passing k g)
     go (sends-2 j k f) = absurd (f g)
-    go (sends-16 j k h m) = (inl refl, refl)
-    go (sends-7 j k h w f) = (inr refl, refl)
-    go (sends-0 j k h w f q m) = absurd (omega arith)
+    go (sends-16 j h m) = (inl refl, refl)
+    go (sends-7 j h w f) = (inr refl, refl)
+    go (sends-0 j h w f q m) = absurd (omega arith)

@@ -4,9 +4,10 @@ use mathlib.Core.Bool.{Bool, true, false, not, _&&_}
 use mathlib.Core.List.{List}
 use lib.Dec.{eqb, leb}
 use Prim.Native.Nat.{ℕ, zero, suc, _+_, _*_, _%_}
-use Rattle.tree.specs.declared.Answer.the-variants.{Done}
+use Rattle.tree.specs.declared.Answer.{Answer}
+use Rattle.tree.specs.declared.Answer.the-variants.{Done, Refused}
 use Rattle.tree.specs.declared.Refusal.the-variants.{NoRoom, OutOfRange, AllUsed}
-use Rattle.set.specs.Operations.{codeOf, Call, gives, refuses, auditAnswer, insertWords, deleteWords}
+use Rattle.set.specs.Operations.{codeOf, Call, gives, auditAnswer, insertWords, deleteWords}
 use Rattle.set.specs.Set.{member, room, needed}
 
 -- RULES 17.1: "A notice number from 1 to 65,535 and a resident number from 0 to 8,191 are given, with a limit from 1 to 7."
@@ -36,11 +37,18 @@ residentKeys = 8
 unfoldable pub markKey : (notice resident attempt : ℕ) → ℕ
 markKey n r a = n * noticeKeys + r * residentKeys + a
 
--- RULES 17.4 and 17.5, the refusals in their order: "15 for an argument outside its range, before 1 and 2", which are the audit's own; else what the call
--- does.
+-- a call that is refused leaves all as it was, and another goes on
+unfoldable pub unless : Answer → List ℕ → Call → Call
+unless a p next = elim (eqb (codeOf a) 0) [ true ↦ next | false ↦ gives a p ]
+
+-- RULES 17.4 and 17.5, the refusals in their order: "15 for an argument outside its range, before 1 and 2", which are the audit's own; then what
+-- the call does.
+unfoldable pub rangeAnswer : Bool → Answer
+rangeAnswer true = Done 0
+rangeAnswer false = Refused OutOfRange
+
 unfoldable pub judged : Bool → List ℕ → Call → Call
-judged false p done = refuses OutOfRange p
-judged true p done = elim (eqb (codeOf (auditAnswer p)) 0) [ true ↦ done | false ↦ gives (auditAnswer p) p ]
+judged good p next = unless (rangeAnswer good) p (unless (auditAnswer p) p next)
 
 -- RULES 17.3: "the lowest unmarked attempt", from attempt a on, of so many; 0 if all of them are marked. The key of attempt 0 is given.
 unfoldable pub lowestFrom : (left a first : ℕ) → List ℕ → ℕ
@@ -49,11 +57,14 @@ lowestFrom (suc left) a first p = elim (eqb (member (first + a) p) 0) [ true ↦
 
 -- RULES 17.4: "16 when all attempts are marked, then 7 for no room"; else "yes", and the attempt "is marked in the same call before the
 -- answer is yes".
+unfoldable pub usedAnswer : ℕ → Answer
+usedAnswer a = elim (eqb a 0) [ true ↦ Refused AllUsed | false ↦ Done 0 ]
+
+unfoldable pub roomAnswer : List ℕ → Answer
+roomAnswer p = elim (leb (needed p) (room p)) [ true ↦ Done 0 | false ↦ Refused NoRoom ]
+
 unfoldable pub marked : List ℕ → (first attempt : ℕ) → Call
-marked p first a = elim (eqb a 0) [
-  | true ↦ refuses AllUsed p
-  | false ↦ elim (leb (needed p) (room p)) [ true ↦ gives (Done a) (insertWords p (first + a)) | false ↦ refuses NoRoom p ]
-]
+marked p first a = unless (usedAnswer a) p (unless (roomAnswer p) p (gives (Done a) (insertWords p (first + a))))
 
 -- in a pool that passes the audit, from the key of attempt 0 on
 unfoldable pub asked : List ℕ → (first limit : ℕ) → Call

@@ -44,18 +44,19 @@ use Rattle.set.specs.Set.{Passing, member, held, room, needed, OneMore, 
 use Rattle.tree.proofs.Moves.{upwards-length, nodes-held, Moves, insert-moves, delete-moves, step-free, settle-keeps-keys, settle-free}
 use Rattle.set.proofs.Members.{member-shown, held-shown, room-shown, needed-shown, room-held, one-more, same-set}
 use Rattle.updates.proofs.Kept.{insert-kept, delete-kept}
+use Rattle.set.proofs.Passing.{shown}
 
 -- A set: no key is in it twice; and k keys take 2k - 1 slots.
 pub member-once : {p : List ℕ} → Passing p → (x : ℕ) → member x p ≤ 1
-member-once g x = omega (arith, member-shown (g .sound) (g .shows) x, isIn-once x (g .state) (g .sound))
+member-once g x = omega (arith, member-shown (shown g .sound) (shown g .shows) x, isIn-once x (shown g .state) (shown g .sound))
 
 pub room-exact : {p : List ℕ} → Passing p → pred (2 * held p) + room p ≡ slotsIn p
-room-exact g = room-held (g .sound) (g .shows) ∙ sym (shows-length-good (g .sound) (g .shows) .1)
+room-exact g = room-held (shown g .sound) (shown g .shows) ∙ sym (shows-length-good (shown g .sound) (shown g .shows) .1)
 
 -- "1 if empty, else 2"
 pub needed-exact : {p : List ℕ} → Passing p → (held p ≡ 0 → needed p ≡ 1) × (held p ≢ 0 → needed p ≡ 2)
 unfolding keysOf slotsNeeded
-needed-exact {p} g = rw (held-shown (g .sound) (g .shows), needed-shown (g .sound) (g .shows)) (go (g .state .top))
+needed-exact {p} g = rw (held-shown (shown g .sound) (shown g .shows), needed-shown (shown g .sound) (shown g .shows)) (go (shown g .state .top))
   where
     go : (t : Top) → (length (keysOf t) ≡ 0 → slotsNeeded t ≡ 1) × (length (keysOf t) ≢ 0 → slotsNeeded t ≡ 2)
     go empty = (λ z. refl, λ n. absurd (n refl))
@@ -65,11 +66,11 @@ needed-exact {p} g = rw (held-shown (g .sound) (g .shows), needed-shown (g .soun
 -- no key and every slot is free.
 module _ {p : List ℕ} (g : Passing p) where
   pub nodes-exact : (headerOf p) .nodes ≡ pred (2 * held p)
-  nodes-exact = omega (arith, shows-nodes (g .shows), nodes-held (g .state .top), held-shown (g .sound) (g .shows))
+  nodes-exact = omega (arith, shows-nodes (shown g .shows), nodes-held (shown g .state .top), held-shown (shown g .sound) (shown g .shows))
 
   pub report-nodes : (reportOf p) .figures .nodes ≡ (headerOf p) .nodes
   unfolding report nodes
-  report-nodes = ap (λ (r : Reported). r .figures .nodes) (report-exact (g .sound) (g .shows)) ∙ (go (g .state .top) ∙ sym (shows-nodes (g .shows)))
+  report-nodes = ap (λ (r : Reported). r .figures .nodes) (report-exact (shown g .sound) (shown g .shows)) ∙ (go (shown g .state .top) ∙ sym (shows-nodes (shown g .shows)))
     where
       go : (t : Top) → (report t) .nodes ≡ nodes t
       go empty = refl
@@ -77,7 +78,7 @@ module _ {p : List ℕ} (g : Passing p) where
 
   pub root-none : ((headerOf p) .root ≡ 0) ↔ ((headerOf p) .nodes ≡ 0)
   unfolding rootOf nodes HoldsTop
-  root-none = rw (shows-root (g .shows), shows-nodes (g .shows)) (go (g .state .top) (g .shows .tree-held))
+  root-none = rw (shows-root (shown g .shows), shows-nodes (shown g .shows)) (go (shown g .state .top) (shown g .shows .tree-held))
     where
       go : (t : Top) → HoldsTop p t → (rootOf t ≡ 0) ↔ (nodes t ≡ 0)
       go empty h = (λ z. refl, λ z. refl)
@@ -87,7 +88,7 @@ module _ {p : List ℕ} (g : Passing p) where
   unfolding keysOf countIn
   empty-says z =
       let none : held p ≡ 0 = omega (arith, nodes-exact) in
-      record { no-member = λ x. member-shown (g .sound) (g .shows) x ∙ go x (g .state .top) (sym (held-shown (g .sound) (g .shows)) ∙ none); none-held = none; all-free = omega (arith, room-exact g) }
+      record { no-member = λ x. member-shown (shown g .sound) (shown g .shows) x ∙ go x (shown g .state .top) (sym (held-shown (shown g .sound) (shown g .shows)) ∙ none); none-held = none; all-free = omega (arith, room-exact g) }
     where
       go : (x : ℕ) (t : Top) → length (keysOf t) ≡ 0 → countIn x (keysOf t) ≡ 0
       go x empty h = refl
@@ -100,12 +101,12 @@ prepare-says p h =
     record { no-member = λ x. member-shown (s .0) (s .1) x; none-held = held-shown (s .0) (s .1); all-free = room-shown (s .0) (s .1) ∙ upwards-length 1 (slotsIn p) }
 
 pub search-says : {p : List ℕ} → Passing p → (x : ℕ) → Searched x p (searchAnswer p x)
-search-says {p} g x = rw (search-entry x (g .sound) (g .shows)) (go (search-says-state x (g .state) (g .sound)))
+search-says {p} g x = rw (search-entry x (shown g .sound) (shown g .shows)) (go (search-says-state x (shown g .state) (shown g .sound)))
   where
-    is : member x p ≡ isIn x (g .state)
-    is = member-shown (g .sound) (g .shows) x
+    is : member x p ≡ isIn x (shown g .state)
+    is = member-shown (shown g .sound) (shown g .shows) x
 
-    go : {o : Outcome} → SearchSays x (g .state) o → Searched x p (o .answer)
+    go : {o : Outcome} → SearchSays x (shown g .state) o → Searched x p (o .answer)
     go (found i e f) = here (is ∙ i)
     go (missing i) = nowhere (is ∙ i)
 
@@ -117,30 +118,30 @@ search-codes {p} g x = go (search-says g x)
     go (nowhere i) = omega arith
 
 pub next-says : {p : List ℕ} → Passing p → (x : ℕ) → NextSays x p (nextAnswer p x)
-next-says {p} g x = rw (next-entry x (g .sound) (g .shows)) (go (next-says-state x (g .state) (g .sound)))
+next-says {p} g x = rw (next-entry x (shown g .sound) (shown g .shows)) (go (next-says-state x (shown g .state) (shown g .sound)))
   where
-    is : (y : ℕ) → member y p ≡ isIn y (g .state)
-    is y = member-shown (g .sound) (g .shows) y
+    is : (y : ℕ) → member y p ≡ isIn y (shown g .state)
+    is y = member-shown (shown g .sound) (shown g .shows) y
 
-    go : {a : Answer} → NextSaysState x (g .state) a → NextSays x p a
+    go : {a : Answer} → NextSaysState x (shown g .state) a → NextSays x p a
     go (next {k} h s i f) = next-is h s (is k ∙ i) (λ y l u. is y ∙ f y l u)
     go (none-above f) = none-left (λ y l. is y ∙ f y l)
 
 pub insert-says : {p : List ℕ} → Passing p → (x : ℕ) → x < keyEnd → Inserted x p (insertAnswer p x) (insertWords p x)
 insert-says {p} g x h =
-    let s = insert-entry x (g .sound) (g .shows) in
-    go (insert-says-state x (g .state) (g .sound)) (insert-moves x (g .state) (g .sound)) (insert-sound x (g .state) (g .sound) h) (s .0) (s .1)
+    let s = insert-entry x (shown g .sound) (shown g .shows) in
+    go (insert-says-state x (shown g .state) (shown g .sound)) (insert-moves x (shown g .state) (shown g .sound)) (insert-sound x (shown g .state) (shown g .sound) h) (s .0) (s .1)
   where
-    is : member x p ≡ isIn x (g .state)
-    is = member-shown (g .sound) (g .shows) x
+    is : member x p ≡ isIn x (shown g .state)
+    is = member-shown (shown g .sound) (shown g .shows) x
 
-    go : {o : Outcome} → InsertSays x (g .state) o → Moves (g .state) o 0 1 → Sound (o .after) → insertAnswer p x ≡ o .answer
+    go : {o : Outcome} → InsertSays x (shown g .state) o → Moves (shown g .state) o 0 1 → Sound (o .after) → insertAnswer p x ≡ o .answer
         → PoolShows (insertWords p x) (o .after) → Inserted x p (insertAnswer p x) (insertWords p x)
     go (present i) m t e f = rw (insert-kept p x KeyPresent e, e) (key-present (is ∙ i))
-    go (no-room i r) m t e f = rw (insert-kept p x NoRoom e, e) (room-lacking (is ∙ i) (omega (arith, room-shown (g .sound) (g .shows), needed-shown (g .sound) (g .shows))))
+    go (no-room i r) m t e f = rw (insert-kept p x NoRoom e, e) (room-lacking (is ∙ i) (omega (arith, room-shown (shown g .sound) (shown g .shows), needed-shown (shown g .sound) (shown g .shows))))
     go (added i r k l) m t e f =
-        let enough : needed p ≤ room p = omega (arith, room-shown (g .sound) (g .shows), needed-shown (g .sound) (g .shows)) in
-        rw e (inserted (is ∙ i) enough (one-more (g .sound) (g .shows) t f (m .slots-stay) (omega (arith, m .by-one refl)) x k))
+        let enough : needed p ≤ room p = omega (arith, room-shown (shown g .sound) (shown g .shows), needed-shown (shown g .sound) (shown g .shows)) in
+        rw e (inserted (is ∙ i) enough (one-more (shown g .sound) (shown g .shows) t f (m .slots-stay) (omega (arith, m .by-one refl)) x k))
 
 pub insert-codes : {p : List ℕ} → Passing p → (x : ℕ) → x < keyEnd → InsertCodes x p (codeOf (insertAnswer p x))
 insert-codes {p} g x h = go (insert-says g x h)
@@ -152,18 +153,18 @@ insert-codes {p} g x h = go (insert-says g x h)
 
 pub delete-says : {p : List ℕ} → Passing p → (x : ℕ) → Deleted x p (deleteAnswer p x) (deleteWords p x)
 delete-says {p} g x =
-    let s = delete-entry x (g .sound) (g .shows) in
-    go (delete-says-state x (g .state) (g .sound)) (delete-moves x (g .state) (g .sound)) (delete-sound x (g .state) (g .sound)) (s .0) (s .1)
+    let s = delete-entry x (shown g .sound) (shown g .shows) in
+    go (delete-says-state x (shown g .state) (shown g .sound)) (delete-moves x (shown g .state) (shown g .sound)) (delete-sound x (shown g .state) (shown g .sound)) (s .0) (s .1)
   where
-    is : member x p ≡ isIn x (g .state)
-    is = member-shown (g .sound) (g .shows) x
+    is : member x p ≡ isIn x (shown g .state)
+    is = member-shown (shown g .sound) (shown g .shows) x
 
-    go : {o : Outcome} → DeleteSays x (g .state) o → Moves (g .state) o 1 0 → Sound (o .after) → deleteAnswer p x ≡ o .answer
+    go : {o : Outcome} → DeleteSays x (shown g .state) o → Moves (shown g .state) o 1 0 → Sound (o .after) → deleteAnswer p x ≡ o .answer
         → PoolShows (deleteWords p x) (o .after) → Deleted x p (deleteAnswer p x) (deleteWords p x)
     go (absent i) m t e f = rw (delete-kept p x KeyAbsent e, e) (key-absent (is ∙ i))
     go (removed i n k) m t e f =
         rw (e ∙ ap Done (n ∙ sym (held-shown t f)))
-        (gone (is ∙ i) (one-more t f (g .sound) (g .shows) (sym (m .slots-stay)) (omega (arith, m .by-one refl)) x k))
+        (gone (is ∙ i) (one-more t f (shown g .sound) (shown g .shows) (sym (m .slots-stay)) (omega (arith, m .by-one refl)) x k))
 
 pub delete-codes : {p : List ℕ} → Passing p → (x : ℕ) → KeyCodes x p (codeOf (deleteAnswer p x))
 delete-codes {p} g x = go (delete-says g x)
@@ -175,11 +176,11 @@ delete-codes {p} g x = go (delete-says g x)
 -- Settle and step: the set and its room are as before.
 pub settle-same : {p : List ℕ} → Passing p → (budget : ℕ) → SameSet p (settleWords p budget)
 settle-same g b =
-    same-set (g .sound) (g .shows) (settle-sound-state (g .state) b (g .sound)) (settle-entry (g .sound) (g .shows) b .1) (settle-keeps-keys (g .state) b (g .sound)) (settle-free (g .state) b)
+    same-set (shown g .sound) (shown g .shows) (settle-sound-state (shown g .state) b (shown g .sound)) (settle-entry (shown g .sound) (shown g .shows) b .1) (settle-keeps-keys (shown g .state) b (shown g .sound)) (settle-free (shown g .state) b)
 
 pub step-same : {p : List ℕ} → Passing p → (s n : ℕ) → SameSet p (stepWords p s n)
 step-same g s n =
-    same-set (g .sound) (g .shows) (step-sound-state s n (g .state) (g .sound)) (step-entry (g .sound) (g .shows) s n .1) (step-keeps-keys s n (g .state) (g .sound)) (step-free s n (g .state))
+    same-set (shown g .sound) (shown g .shows) (step-sound-state s n (shown g .state) (shown g .sound)) (step-entry (shown g .sound) (shown g .shows) s n .1) (step-keeps-keys s n (shown g .state) (shown g .sound)) (step-free s n (shown g .state))
 
 -- The same by the answer, for code that matches on it.
 module _ {p : List ℕ} (g : Passing p) (x : ℕ) where

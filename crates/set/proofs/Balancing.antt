@@ -30,7 +30,7 @@ use Rattle.steps.proofs.StepShows.{step-entry}
 use Rattle.steps.proofs.SettleShows.{settle-entry}
 use Rattle.set.specs.Set.{Passing, Settles, done, spent}
 use Rattle.set.specs.Balance.{boundNumber, excessNumber, Balanced, Stepping, no-step, one-step}
-use Rattle.set.proofs.Passing.{step-passing}
+use Rattle.set.proofs.Passing.{shown, step-passing}
 
 -- The report of words that show a sound State gives its numbers.
 module _ {p : List ℕ} {S : State} (sound : Sound S) (shows : PoolShows p S) where
@@ -62,8 +62,8 @@ module _ {p : List ℕ} {S : State} (sound : Sound S) (shows : PoolShows p S) wh
 -- Every accepted step call lowers the bound.
 pub step-falls : {p : List ℕ} → Passing p → (s n a : ℕ) → stepAnswer p s n ≡ Done a → boundNumber (stepWords p s n) < boundNumber p
 step-falls g s n a d =
-    let e = step-entry (g .sound) (g .shows) s n in
-    omega (arith, bound-shown (g .sound) (g .shows), bound-shown (step-sound-state s n (g .state) (g .sound)) (e .1), accepted-falls s n a (g .state) (g .sound) (sym (e .0) ∙ d))
+    let e = step-entry (shown g .sound) (shown g .shows) s n in
+    omega (arith, bound-shown (shown g .sound) (shown g .shows), bound-shown (step-sound-state s n (shown g .state) (shown g .sound)) (e .1), accepted-falls s n a (shown g .state) (shown g .sound) (sym (e .0) ∙ d))
 
 pub steps-bounded : {m : ℕ} {p q : List ℕ} → Passing p → Stepping m p q → m + boundNumber q ≤ boundNumber p
 steps-bounded g no-step = omega arith
@@ -71,53 +71,53 @@ steps-bounded g (one-step {a = a} s n d rest) = omega (arith, step-falls g s n a
 
 pub steps-few : {m : ℕ} {p q : List ℕ} → Passing p → Stepping m p q
     → m ≤ (3 * (reportOf p) .figures .nodes + 1) * (reportOf p) .figures .«over_distance» + 2 * (reportOf p) .figures .nodes * (reportOf p) .figures .conflicts + (reportOf p) .figures .«red_distance»
-steps-few g h = rw (← formula (g .sound) (g .shows)) (omega (arith, steps-bounded g h))
+steps-few g h = rw (← formula (shown g .sound) (shown g .shows)) (omega (arith, steps-bounded g h))
 
 -- Until the tree is red-black some slot and kind are accepted, and then none.
 pub some-accepted : {p : List ℕ} → Passing p → Balanced p ⊎ ((s n : ℕ) × (stepAnswer p s n ≡ Done n))
-some-accepted {p} g = go (some-accepted-state (g .state) (g .sound))
+some-accepted {p} g = go (some-accepted-state (shown g .state) (shown g .sound))
   where
-    go : BalancedState (g .state) ⊎ SomeAccepted (g .state) → Balanced p ⊎ ((s n : ℕ) × (stepAnswer p s n ≡ Done n))
-    go (inl b) = inl (balanced-shown (g .sound) (g .shows) .1 b)
-    go (inr (some-accepted-is s k d)) = inr (s, kindNumber k, step-entry (g .sound) (g .shows) s (kindNumber k) .0 ∙ d)
+    go : BalancedState (shown g .state) ⊎ SomeAccepted (shown g .state) → Balanced p ⊎ ((s n : ℕ) × (stepAnswer p s n ≡ Done n))
+    go (inl b) = inl (balanced-shown (shown g .sound) (shown g .shows) .1 b)
+    go (inr (some-accepted-is s k d)) = inr (s, kindNumber k, step-entry (shown g .sound) (shown g .shows) s (kindNumber k) .0 ∙ d)
 
 pub none-accepted : {p : List ℕ} → Passing p → Balanced p → (s n a : ℕ) → stepAnswer p s n ≡ Done a → ⊥
-none-accepted g b s n a d = none-accepted-state (g .state) (g .sound) (balanced-shown (g .sound) (g .shows) .0 b) s n a (sym (step-entry (g .sound) (g .shows) s n .0) ∙ d)
+none-accepted g b s n a d = none-accepted-state (shown g .state) (shown g .sound) (balanced-shown (shown g .sound) (shown g .shows) .0 b) s n a (sym (step-entry (shown g .sound) (shown g .shows) s n .0) ∙ d)
 
 -- Settle, of pools.
 module _ {p : List ℕ} (g : Passing p) (budget : ℕ) where
-  shown : (settleAnswer p budget ≡ (settle budget (g .state)) .answer) × PoolShows (settleWords p budget) ((settle budget (g .state)) .after)
-  shown = settle-entry (g .sound) (g .shows) budget
+  entry-shown : (settleAnswer p budget ≡ (settle budget (shown g .state)) .answer) × PoolShows (settleWords p budget) ((settle budget (shown g .state)) .after)
+  entry-shown = settle-entry (shown g .sound) (shown g .shows) budget
 
   pub settle-falls : numberOf (settleAnswer p budget) + boundNumber (settleWords p budget) ≤ boundNumber p
   settle-falls =
-      let after = bound-shown (settle-sound-state (g .state) budget (g .sound)) (shown .1) in
-      omega (arith, ap numberOf (shown .0), after, bound-shown (g .sound) (g .shows), settle-state-falls (g .state) budget (g .sound))
+      let after = bound-shown (settle-sound-state (shown g .state) budget (shown g .sound)) (entry-shown .1) in
+      omega (arith, ap numberOf (entry-shown .0), after, bound-shown (shown g .sound) (shown g .shows), settle-state-falls (shown g .state) budget (shown g .sound))
 
   pub settle-balanced : (codeOf (settleAnswer p budget) ≡ 0) ↔ Balanced (settleWords p budget)
   settle-balanced =
-      let c = settle-code-0 (g .state) budget (g .sound) in
-      let e = ap codeOf (shown .0) in
-      let b = balanced-shown (settle-sound-state (g .state) budget (g .sound)) (shown .1) in
+      let c = settle-code-0 (shown g .state) budget (shown g .sound) in
+      let e = ap codeOf (entry-shown .0) in
+      let b = balanced-shown (settle-sound-state (shown g .state) budget (shown g .sound)) (entry-shown .1) in
       (λ z. b .1 (c .0 (sym e ∙ z)), λ y. e ∙ c .1 (b .0 y))
 
   pub settle-enough : boundNumber p ≤ budget → codeOf (settleAnswer p budget) ≡ 0
   settle-enough h =
-      let b = settle-enough-state (g .state) budget (g .sound) (omega (arith, bound-shown (g .sound) (g .shows))) in
-      ap codeOf (shown .0) ∙ settle-code-0 (g .state) budget (g .sound) .1 b
+      let b = settle-enough-state (shown g .state) budget (shown g .sound) (omega (arith, bound-shown (shown g .sound) (shown g .shows))) in
+      ap codeOf (entry-shown .0) ∙ settle-code-0 (shown g .state) budget (shown g .sound) .1 b
 
   pub settle-within : numberOf (settleAnswer p budget) ≤ budget
-  settle-within = omega (arith, ap numberOf (shown .0), settle-state-within (g .state) budget)
+  settle-within = omega (arith, ap numberOf (entry-shown .0), settle-state-within (shown g .state) budget)
 
   pub settle-spent : codeOf (settleAnswer p budget) ≡ 12 → numberOf (settleAnswer p budget) ≡ budget
-  settle-spent = rw (shown .0) (go (settle-ended (g .state) budget))
+  settle-spent = rw (entry-shown .0) (go (settle-ended (shown g .state) budget))
     where
       go : {a : Answer} → Ended budget a → codeOf a ≡ 12 → numberOf a ≡ budget
       go ended-done z = absurd (omega arith)
       go ended-spent z = refl
 
   pub settle-answers : Settles budget (boundNumber p) (settleAnswer p budget)
-  settle-answers = go (settle-ended (g .state) budget) (shown .0)
+  settle-answers = go (settle-ended (shown g .state) budget) (entry-shown .0)
     where
       few : settleAnswer p budget ≡ Spent budget → Dec (boundNumber p ≤ budget) → budget < boundNumber p
       few e (yes h) = absurd (omega (arith, ap codeOf e, settle-enough h))

@@ -29,6 +29,7 @@ use Rattle.updates.specs.Updating.{searchAnswer, insertAnswer, insertWords}
 use Rattle.updates.proofs.SearchShows.{search-entry}
 use Rattle.updates.proofs.InsertShows.{insert-entry}
 use Rattle.set.specs.Set.{Passing, LeafSlot}
+use Rattle.set.proofs.Passing.{shown}
 
 module _ {p : List ℕ} {S : State} (sound : Sound S) (shows : PoolShows p S) where
   free-is : chainFound (headerOf p) p ≡ S .free
@@ -75,16 +76,16 @@ module _ {p : List ℕ} {S : State} (sound : Sound S) (shows : PoolShows p S) wh
 -- Search answers a slot exactly when it is that of a leaf with the key.
 pub search-slot : {p : List ℕ} → Passing p → (x s : ℕ) → (searchAnswer p x ≡ Done s) ↔ LeafSlot x s p
 unfolding search reachedSlot reachedKey
-search-slot {p} g x s = rw (search-entry x (g .sound) (g .shows)) (go (search-says x (g .state) (g .sound)), back)
+search-slot {p} g x s = rw (search-entry x (shown g .sound) (shown g .shows)) (go (search-says x (shown g .state) (shown g .sound)), back)
   where
-    go : {o : Outcome} → SearchSays x (g .state) o → o .answer ≡ Done s → LeafSlot x s p
-    go (found {s = v} i e f) d = let same : v ≡ s = cc in leaf-shown (g .sound) (g .shows) e (rw same at f)
+    go : {o : Outcome} → SearchSays x (shown g .state) o → o .answer ≡ Done s → LeafSlot x s p
+    go (found {s = v} i e f) d = let same : v ≡ s = cc in leaf-shown (shown g .sound) (shown g .shows) e (rw same at f)
     go (missing i) d = let z : _≡_ {A = ℕ} 0 1 = cc in absurd (omega arith)
 
-    back : LeafSlot x s p → (search x (g .state)) .answer ≡ Done s
+    back : LeafSlot x s p → (search x (shown g .state)) .answer ≡ Done s
     back l =
-        let (t, e, f) = shown-leaf (g .sound) (g .shows) l in
-        let r = leaf-reached 0 keyEnd (tree-good (g .state) t (g .sound) e .ordered) f in
+        let (t, e, f) = shown-leaf (shown g .sound) (shown g .shows) l in
+        let r = leaf-reached 0 keyEnd (tree-good (shown g .state) t (shown g .sound) e .ordered) f in
         let key : reachedKey x t ≡ x = ap (λ (a : ℕ × ℕ). a .1) r in
         let there : reachedSlot x t ≡ s = ap (λ (a : ℕ × ℕ). a .0) r in
         cc (e, eq-eqb _ _ key, there)
@@ -92,10 +93,10 @@ search-slot {p} g x s = rw (search-entry x (g .sound) (g .shows)) (go (search-sa
 -- Insert answers the slot of a leaf with the key, in the words that it leaves.
 pub insert-slot : {p : List ℕ} → Passing p → (x s : ℕ) → x < keyEnd → insertAnswer p x ≡ Done s → LeafSlot x s (insertWords p x)
 insert-slot {p} g x s h d =
-    let e = insert-entry x (g .sound) (g .shows) in
-    go (insert-says x (g .state) (g .sound)) (insert-sound x (g .state) (g .sound) h) (e .1) (sym (e .0) ∙ d)
+    let e = insert-entry x (shown g .sound) (shown g .shows) in
+    go (insert-says x (shown g .state) (shown g .sound)) (insert-sound x (shown g .state) (shown g .sound) h) (e .1) (sym (e .0) ∙ d)
   where
-    go : {o : Outcome} → InsertSays x (g .state) o → Sound (o .after) → PoolShows (insertWords p x) (o .after) → o .answer ≡ Done s → LeafSlot x s (insertWords p x)
+    go : {o : Outcome} → InsertSays x (shown g .state) o → Sound (o .after) → PoolShows (insertWords p x) (o .after) → o .answer ≡ Done s → LeafSlot x s (insertWords p x)
     go (present i) t f a = let z : _≡_ {A = ℕ} 0 1 = cc in absurd (omega arith)
     go (no-room i r) t f a = let z : _≡_ {A = ℕ} 0 1 = cc in absurd (omega arith)
     go (added {s = v} i r k l) t f a = let same : v ≡ s = cc in leaf-shown t f refl (rw same at l)

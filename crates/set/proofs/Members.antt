@@ -17,7 +17,8 @@ use Rattle.format.specs.Audit.{stateOf}
 use Rattle.format.proofs.Rules.{show-rules}
 use Rattle.tree.proofs.SoundStates.{sound-total}
 use Rattle.tree.proofs.Tests.{one-same, one-other}
-use Rattle.set.specs.Set.{member, held, room, needed, OneMore, SameSet}
+use Rattle.set.specs.Inside.{held, member, needed, room}
+use Rattle.set.specs.Set.{OneMore, SameSet}
 
 -- 2k - 1 nodes: those of one key more are so many more
 needed-pred : (t : Top) → pred (2 * (length (keysOf t) + 1)) ≡ pred (2 * length (keysOf t)) + slotsNeeded t

@@ -26,24 +26,29 @@ use Rattle.updates.proofs.DeleteShows.{delete-entry}
 use Rattle.steps.specs.Steps.{stepWords, settleWords}
 use Rattle.steps.proofs.StepShows.{step-entry}
 use Rattle.steps.proofs.SettleShows.{settle-entry}
-use Rattle.set.specs.Operations.{auditedAnswer, auditAnswer}
-use Rattle.set.specs.Set.{Passing, Audits, wrong-length, rules-broken, audit-passed}
+use Rattle.set.specs.Inside.{Shown, ShowsSound, Passing, auditedAnswer, auditAnswer}
+use Rattle.set.specs.Set.{Audits, wrong-length, rules-broken, audit-passed}
 
--- Words that show a sound State pass.
+-- Words that show a sound State pass, and those that pass show one.
 pub passing : {p : List ℕ} {S : State} → Sound S → PoolShows p S → Passing p
-passing {S = S} sound shows = record { state = S; sound = sound; shows = shows }
+unfolding ShowsSound
+passing {S = S} sound shows = record { shows-sound = record { state = S; sound = sound; shows = shows } }
+
+pub shown : {p : List ℕ} → Passing p → Shown p
+unfolding ShowsSound
+shown g = g .shows-sound
 
 -- Code 0 exactly when the pool passes; on words, of which each is a 32-bit number.
 pub audit-passes : (p : List ℕ) → Words32 p → (auditCode p ≡ 0) ↔ Passing p
 audit-passes p words =
     let e = audit-exact p words in
-    (λ z. let s = e .0 z in passing (s .1) (s .2), λ g. e .1 (g .state, g .sound, g .shows))
+    (λ z. let s = e .0 z in passing (s .1) (s .2), λ g. e .1 (shown g .state, shown g .sound, shown g .shows))
 
 pub passing-words : {p : List ℕ} → Passing p → Words32 p
-passing-words g = words-small (g .sound) (g .shows)
+passing-words g = words-small (shown g .sound) (shown g .shows)
 
 pub passing-length : {p : List ℕ} → Passing p → lengthGood p ≡ true
-passing-length g = show-rules (g .sound) (g .shows) .0
+passing-length g = show-rules (shown g .sound) (shown g .shows) .0
 
 pub passing-audited : {p : List ℕ} → Passing p → auditCode p ≡ 0
 passing-audited {p} g = audit-passes p (passing-words g) .1 g
@@ -55,12 +60,12 @@ audit-says p words = go (audited-case p)
   where
     go : {a : Audited} → Case p a → Audits p (auditedAnswer a)
     go (length-case l) = wrong-length l
-    go (broken-case l r) = rules-broken l (λ g. absurd (false≢true (sym r ∙ show-rules (g .sound) (g .shows) .1)))
+    go (broken-case l r) = rules-broken l (λ g. absurd (false≢true (sym r ∙ show-rules (shown g .sound) (shown g .shows) .1)))
     go (kept-case l r) = let s = rules-show (headerOf p) p l r words in audit-passed l (passing (s .0) (s .1))
 
 -- A passing pool shows one State: the one that is read off its words.
 pub passing-state : {p : List ℕ} → Passing p → Sound (stateOf p) × PoolShows p (stateOf p)
-passing-state g = rw (show-rules (g .sound) (g .shows) .2) (g .sound, g .shows)
+passing-state g = rw (show-rules (shown g .sound) (shown g .shows) .2) (shown g .sound, shown g .shows)
 
 -- Every operation leaves a pool that passes.
 pub prepare-passing : (p : List ℕ) → lengthGood p ≡ true → Passing (preparedWords p)
@@ -68,13 +73,13 @@ prepare-passing p h = let s = prepared-shows p h in passing (s .0) (s .1)
 
 module _ {p : List ℕ} (g : Passing p) where
   pub insert-passing : (x : ℕ) → x < keyEnd → Passing (insertWords p x)
-  insert-passing x h = passing (insert-sound x (g .state) (g .sound) h) (insert-entry x (g .sound) (g .shows) .1)
+  insert-passing x h = passing (insert-sound x (shown g .state) (shown g .sound) h) (insert-entry x (shown g .sound) (shown g .shows) .1)
 
   pub delete-passing : (x : ℕ) → Passing (deleteWords p x)
-  delete-passing x = passing (delete-sound x (g .state) (g .sound)) (delete-entry x (g .sound) (g .shows) .1)
+  delete-passing x = passing (delete-sound x (shown g .state) (shown g .sound)) (delete-entry x (shown g .sound) (shown g .shows) .1)
 
   pub step-passing : (s n : ℕ) → Passing (stepWords p s n)
-  step-passing s n = passing (step-sound-state s n (g .state) (g .sound)) (step-entry (g .sound) (g .shows) s n .1)
+  step-passing s n = passing (step-sound-state s n (shown g .state) (shown g .sound)) (step-entry (shown g .sound) (shown g .shows) s n .1)
 
   pub settle-passing : (budget : ℕ) → Passing (settleWords p budget)
-  settle-passing b = passing (settle-sound-state (g .state) b (g .sound)) (settle-entry (g .sound) (g .shows) b .1)
+  settle-passing b = passing (settle-sound-state (shown g .state) b (shown g .sound)) (settle-entry (shown g .sound) (shown g .shows) b .1)

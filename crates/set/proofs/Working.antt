@@ -15,18 +15,18 @@ use Rattle.steps.proofs.StepShows.{step-entry}
 use Rattle.steps.proofs.SettleShows.{settle-entry}
 use Rattle.set.specs.Set.{Passing}
 use Rattle.set.specs.Balance.{excessNumber, Stepping, no-step, one-step}
-use Rattle.set.proofs.Passing.{step-passing}
+use Rattle.set.proofs.Passing.{shown, step-passing}
 use Rattle.set.proofs.Balancing.{excess-shown, settle-balanced}
 
 pub steps-work : {m : ℕ} {p q : List ℕ} → Passing p → Stepping m p q → (excessNumber q ≤ excessNumber p) × (excessNumber p ≤ excessNumber q + 2 * m)
 steps-work g no-step = omega arith
 steps-work g (one-step s n d rest) =
-    let e = step-entry (g .sound) (g .shows) s n in
+    let e = step-entry (shown g .sound) (shown g .shows) s n in
     omega (
       arith,
-      excess-shown (g .sound) (g .shows),
-      excess-shown (step-sound-state s n (g .state) (g .sound)) (e .1),
-      step-works s n (g .state) (g .sound),
+      excess-shown (shown g .sound) (shown g .shows),
+      excess-shown (step-sound-state s n (shown g .state) (shown g .sound)) (e .1),
+      step-works s n (shown g .state) (shown g .sound),
       steps-work (step-passing g s n) rest,
     )
 
@@ -34,13 +34,13 @@ module _ {p : List ℕ} (g : Passing p) (budget : ℕ) where
   pub settle-works : (excessNumber (settleWords p budget) ≤ excessNumber p)
       × (excessNumber p ≤ excessNumber (settleWords p budget) + 2 * numberOf (settleAnswer p budget))
   settle-works =
-      let e = settle-entry (g .sound) (g .shows) budget in
+      let e = settle-entry (shown g .sound) (shown g .shows) budget in
       omega (
         arith,
         ap numberOf (e .0),
-        excess-shown (g .sound) (g .shows),
-        excess-shown (settle-sound-state (g .state) budget (g .sound)) (e .1),
-        settle-state-works (g .state) budget (g .sound),
+        excess-shown (shown g .sound) (shown g .shows),
+        excess-shown (settle-sound-state (shown g .state) budget (shown g .sound)) (e .1),
+        settle-state-works (shown g .state) budget (shown g .sound),
       )
 
   pub settle-takes : codeOf (settleAnswer p budget) ≡ 0 → excessNumber p ≤ 2 * numberOf (settleAnswer p budget)

@@ -1,3 +1,4 @@
+pub mod Inside
 pub mod Operations
 pub mod Set
 pub mod Balance

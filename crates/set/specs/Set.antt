@@ -1,42 +1,21 @@
 -- The set of keys that a pool shows, and what its operations answer (RULES 13.2): the words of proofs/Promises.antt. A crate above cites
--- these names and does not look behind them: `member`, `held` and `room` are read off the State that the words show.
+-- these names and cannot look behind them: `Passing`, `member`, `held`, `room` and `needed` are passed on here, and what they are stands in Inside.antt.
 use mathlib.Core.Path.{_≡_}
 use mathlib.Core.Logic.{_↔_}
 use mathlib.Core.Bool.{true, false}
 use mathlib.Core.List.{List}
 use lib.Dec.{eqb}
-use lib.ListN.{length}
 use Prim.Native.Nat.{ℕ, _+_, _≤_, _<_}
 use Rattle.tree.specs.declared.Answer.{Answer}
 use Rattle.tree.specs.declared.Answer.the-variants.{Done, Refused, Spent}
 use Rattle.tree.specs.declared.Refusal.the-variants.{PoolLength, RulesBroken, KeyPresent, KeyAbsent, NoRoom}
 use Rattle.tree.specs.Codes.{mostLevel, code}
 use Rattle.tree.specs.Tree.{one, countIn}
-use Rattle.tree.specs.State.{State, keysOf, isIn, keyEnd, Sound, slotsNeeded}
+use Rattle.tree.specs.State.{keyEnd}
 use Rattle.format.specs.Words.{slot, headerOf, slotAt, slotsIn, lengthGood}
-use Rattle.format.specs.Shows.{PoolShows}
-use Rattle.format.specs.Audit.{treeFound, chainFound, slotsOf, stateOf}
-
--- The pool passes the audit: its words show a sound State. (`audit-passes`: exactly when the audit's code is 0.)
-pub record Passing (p : List ℕ) : Type 0 where
-  pub state : State
-  pub sound : Sound state
-  pub shows : PoolShows p state
-
--- whether the key x is in the set: 1, or 0
-unfoldable pub member : ℕ → List ℕ → ℕ
-member x p = isIn x (stateOf p)
-
--- how many keys it has, and how many slots are free
-unfoldable pub held : List ℕ → ℕ
-held p = length (keysOf ((stateOf p) .top))
-
-unfoldable pub room : List ℕ → ℕ
-room p = length ((stateOf p) .free)
-
--- how many slots the next key needs: 1 if the set is empty, else 2
-unfoldable pub needed : List ℕ → ℕ
-needed p = slotsNeeded ((stateOf p) .top)
+use Rattle.format.specs.Audit.{treeFound, chainFound, slotsOf}
+-- The pool passes the audit; whether a key is in the set, how many keys it has, how many slots are free, and how many of these the next key needs.
+pub use Rattle.set.specs.Inside.{Passing, member, held, room, needed}
 
 -- The slot s, from 1 to C, is that of a leaf with the key x. "A leaf has left and right 0"; its weight is from 1 to 255. It is in the
 -- tree, as left and right lead there from the root, and not on the free chain.

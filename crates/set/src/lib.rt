@@ -9,7 +9,7 @@ pub use updates::delete;
 pub use updates::insert;
 pub use updates::search;
 ghost use mathlib.Core.Path.{_≡_};
-ghost use Rattle.set.specs.Operations.{auditAnswer};
+ghost use Rattle.set.specs.Inside.{auditAnswer};
 
 // The audit, as an answer: refused with 1 or 2, or done.
 pub fn audit_answer(pool: &[u32]) -> Answer

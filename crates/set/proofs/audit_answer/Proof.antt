@@ -1,8 +1,8 @@
 -- `audit_answer` meets its contract: each arm is the case of `auditedAnswer` that what `examine` found picks. Assumes nothing.
-use Rattle.set.specs.Operations.{auditAnswer}
 use borrow.Author.Needs.{needs}
 use Rattle.set.proofs.audit_answer.Statement.{statement}
 use Rattle.set.proofs.audit_answer.Tie as tie
+use Rattle.set.specs.Inside.{auditAnswer}
 
 examine-requires : tie.Need-examine-requires
 examine-requires c κs = search needs
