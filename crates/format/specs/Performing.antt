@@ -1,6 +1,5 @@
 -- Commands on words, the header given by value: what one leaves before its header is written, and what an entry of a pool leaves, which
--- reads the header at the beginning and writes it at the end. And what a whole
--- call answers and leaves. This page serves RULES 8, 16 and 17.
+-- reads the header at the beginning and writes it at the end; and what a whole call answers and leaves. This page serves RULES 8, 16 and 17.
 use mathlib.Core.List.{List}
 use Prim.Native.Nat.{ℕ}
 use Rattle.tree.specs.declared.Answer.{Answer}

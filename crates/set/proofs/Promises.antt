@@ -1,5 +1,5 @@
 -- What the set promises, to the crates above it: on words that pass the audit, what its operations answer and what set the words then
--- show. This page and specs/Set.antt are all that they cite; nothing behind it is theirs.
+-- show. This page, specs/Set.antt and specs/Operations.antt are all that they cite; nothing behind these is theirs.
 --
 -- `member x p` is 1 if x is in the set that the words p show, else 0; `held p` is the number of keys; `room p` is the number of free
 -- slots, of which the next key needs `needed p`. For each operation: that the pool passes the audit afterwards (`…-passing`); what it

@@ -24,7 +24,7 @@ use Rattle.format.proofs.Shown.{shows-tree}
 use Rattle.updates.specs.Updating.{wayTo}
 use Rattle.updates.proofs.Ways.{descend-reaches, reached-at}
 use Rattle.updates.proofs.SearchShows.{root-empty, root-full, root-some, size-within, leaf-shows}
-use Rattle.spans.specs.Spanning.{turned, turnsTo, nextBeside, nextAt, nextUnder, nextAnswer}
+use Rattle.spans.specs.Spanning.{turned, turnsTo, nextBeside, nextAt, atOrAbove, nextAnswer}
 use Rattle.spans.proofs.Ways.{slotBeside, turns-reach, HeldBeside, none-held, tree-held, beside-held}
 
 -- the key of the second way's end
@@ -45,13 +45,13 @@ module _ {h : Header} {p : List ℕ} {S : State} {t : Tree} (shows : Shows h p S
       (λ i. rw (le-leb _ _ i, keyAtOr, turns-show, leaf-shows shows e x))
       (λ i. rw (lt-leb _ _ i, keyAtOr, turns-show) (beside-shows x (beside-held x (shows-tree shows e) (size-within shows e sound) none-held))))
 
-pub next-shows : {h : Header} {p : List ℕ} {S : State} (x : ℕ) → Sound S → Shows h p S → nextUnder p (h .root) x ≡ nextKey x (S .top)
-unfolding nextUnder nextKey keysOf firstFrom keyOrAbsent
+pub next-shows : {h : Header} {p : List ℕ} {S : State} (x : ℕ) → Sound S → Shows h p S → atOrAbove p (h .root) x ≡ nextKey x (S .top)
+unfolding atOrAbove nextKey keysOf firstFrom keyOrAbsent
 next-shows {h} {p} {S} x sound shows = go (S .top) refl
   where
-    go : (t : Top) → S .top ≡ t → nextUnder p (h .root) x ≡ nextKey x (S .top)
-    go empty e = rw (eq-eqb _ _ (root-empty shows e), nextUnder, e)
-    go (full t) e = rw (ne-eqb _ _ (root-some shows e), nextUnder, e) (next-full shows e sound x ∙ ap keyOrAbsent (way-finds x 0 keyEnd t (tree-good S t sound e .ordered)))
+    go : (t : Top) → S .top ≡ t → atOrAbove p (h .root) x ≡ nextKey x (S .top)
+    go empty e = rw (eq-eqb _ _ (root-empty shows e), atOrAbove, e)
+    go (full t) e = rw (ne-eqb _ _ (root-some shows e), atOrAbove, e) (next-full shows e sound x ∙ ap keyOrAbsent (way-finds x 0 keyEnd t (tree-good S t sound e .ordered)))
 
 pub next-entry : {p : List ℕ} {S : State} (x : ℕ) → Sound S → PoolShows p S → nextAnswer p x ≡ nextKey x (S .top)
 unfolding nextAnswer

@@ -43,9 +43,9 @@ nextBeside p x s = elim (eqb s 0) [ true ↦ Refused KeyAbsent | false ↦ Done 
 unfoldable pub nextAt : List ℕ → ℕ → Turned → Answer
 nextAt p x t = elim (leb x ((slotAt p (t .slot)) .key)) [ true ↦ Done ((slotAt p (t .slot)) .key) | false ↦ nextBeside p x (t .beside) ]
 
-unfoldable pub nextUnder : List ℕ → ℕ → ℕ → Answer
-nextUnder p root x = elim (eqb root 0) [ true ↦ Refused KeyAbsent | false ↦ nextAt p x (turnsTo p root x) ]
+unfoldable pub atOrAbove : List ℕ → ℕ → ℕ → Answer
+atOrAbove p root x = elim (eqb root 0) [ true ↦ Refused KeyAbsent | false ↦ nextAt p x (turnsTo p root x) ]
 
 -- The entry of a pool: the header is read.
 unfoldable pub nextAnswer : List ℕ → ℕ → Answer
-nextAnswer p x = nextUnder p ((headerOf p) .root) x
+nextAnswer p x = atOrAbove p ((headerOf p) .root) x

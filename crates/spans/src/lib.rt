@@ -9,7 +9,7 @@ use tree::Answer;
 use tree::Refusal;
 use updates::descend;
 ghost use mathlib.Core.Path.{_≡_};
-ghost use Rattle.spans.specs.Spanning.{turn, turnsTo, nextBeside, nextUnder, nextAnswer};
+ghost use Rattle.spans.specs.Spanning.{turn, turnsTo, nextBeside, atOrAbove, nextAnswer};
 
 // Where a search is, and the right child at its last turn to the left, 0 before the first.
 struct Turned {
@@ -68,7 +68,7 @@ fn next_beside(pool: &[u32], s: u32, key: u32) -> Answer
 
 // The smallest key at or above key, in the tree under the root; 6 if there is none. 01: "root slot (0 if empty)".
 pub fn at_or_above(pool: &[u32], root: u32, key: u32) -> Answer
-    ensures answer { λ r. ⌜ r ≡ nextUnder (now (pool .entry)) root key ⌝ }
+    ensures answer { λ r. ⌜ r ≡ atOrAbove (now (pool .entry)) root key ⌝ }
 {
     if root == 0 {
         return Answer::Refused(Refusal::KeyAbsent);

@@ -1,14 +1,14 @@
--- `at_or_above` meets its contract: each return is the case of `nextUnder` and `nextAt` that the tests before it pick, at what the calls
+-- `at_or_above` meets its contract: each return is the case of `atOrAbove` and `nextAt` that the tests before it pick, at what the calls
 -- ensure. Assumes nothing.
-use Rattle.spans.specs.Spanning.{nextUnder, nextAt}
+use Rattle.spans.specs.Spanning.{atOrAbove, nextAt}
 use borrow.Author.Tests.{eq-eqb, ne-eqb, le-leb, lt-leb}
 use borrow.Author.Needs.{needs}
 use Rattle.spans.proofs.at_or_above.Statement.{statement}
 use Rattle.spans.proofs.at_or_above.Tie as tie
 
 returns : tie.Need-returns
-unfolding nextUnder
-returns c = rw (eq-eqb _ _ (c .if1 .taken), nextUnder)
+unfolding atOrAbove
+returns c = rw (eq-eqb _ _ (c .if1 .taken), atOrAbove)
 
 turns-requires : tie.Need-turns-requires
 turns-requires c κs = search needs
@@ -20,12 +20,12 @@ next-beside-requires : tie.Need-next-beside-requires
 next-beside-requires c κs = search needs
 
 returns-2 : tie.Need-returns-2
-unfolding nextUnder nextAt
-returns-2 c = rw (ne-eqb _ _ (c .before .before .before .before .before .if1 .left), nextUnder, lt-leb _ _ (rw (c .before .before .before .get-slot .ensures, c .before .before .before .before .turns .ensures) at (c .before .if2 .taken)), nextAt, c .next-beside .ensures, c .before .before .before .before .turns .ensures)
+unfolding atOrAbove nextAt
+returns-2 c = rw (ne-eqb _ _ (c .before .before .before .before .before .if1 .left), atOrAbove, lt-leb _ _ (rw (c .before .before .before .get-slot .ensures, c .before .before .before .before .turns .ensures) at (c .before .if2 .taken)), nextAt, c .next-beside .ensures, c .before .before .before .before .turns .ensures)
 
 returns-3 : tie.Need-returns-3
-unfolding nextUnder nextAt
-returns-3 c = rw (ne-eqb _ _ (c .before .before .before .before .if1 .left), nextUnder, le-leb _ _ (rw (c .before .before .get-slot .ensures, c .before .before .before .turns .ensures) at (c .if2 .left)), nextAt, c .before .before .get-slot .ensures, c .before .before .before .turns .ensures)
+unfolding atOrAbove nextAt
+returns-3 c = rw (ne-eqb _ _ (c .before .before .before .before .if1 .left), atOrAbove, le-leb _ _ (rw (c .before .before .get-slot .ensures, c .before .before .before .turns .ensures) at (c .if2 .left)), nextAt, c .before .before .get-slot .ensures, c .before .before .before .turns .ensures)
 
 pub at-or-above-spec : {M : Type 1} → statement M
 at-or-above-spec = tie.close (tie.spec returns turns-requires get-slot-requires next-beside-requires returns-2 returns-3)
