@@ -26,6 +26,9 @@ impl Text {
 
 /// The leave to send one text, once. It cannot be made up, copied or cloned; a `fn send(permit: Permit)` uses it up.
 ///
+/// **The type does not see inside the send.** One that tries again by itself, or whose gateway client repeats on a time-out,
+/// sends many texts on one permit: call the gateway once for each.
+///
 /// Its attempt is marked in the set already, and stays so whatever becomes of the text: there is nothing to withdraw. If the
 /// send fails, ask again: [`Pool::may_send`](crate::Pool::may_send) gives the next attempt, while the limit allows one.
 /// Whoever drops a permit loses that attempt.

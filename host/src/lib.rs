@@ -102,10 +102,12 @@
 //! | a send that takes a [`Text`], on `!matches!(.., AllUsed)`: a full set sends at every poll | `fn send(permit: Permit)`, and no other way to the gateway | `still_text_on_not_all_used` |
 //! | a permit from another pool, made where the set has no room | one pool for each sender | `still_permit_of_scratch_pool` |
 //! | a send that borrows: `fn send(permit: &Permit)` | take it by value | `still_permit_borrowed` |
+//! | a send that tries again inside, `fn send(permit: Permit) { while post(..).is_err() {} }`, or a gateway client that repeats on a time-out: many texts on one permit | one call of the gateway for each permit, its own repeats switched off; for a text that failed, ask again | `still_retried_in_the_send` |
 //! | the text first, and then the save: a process that stops in between sends that attempt again | ask, save, store, and then the text | `still_permit_before_save` |
 //! | [`Pool::clear_notice`] of a notice that still stands, to make room: its count begins afresh | on [`MaySend::NoRoom`] no text; call the desk; clear what is over, or begin with more slots | `still_cleared_while_it_stands` |
 //! | clearing first, and then storing that the notice is over: a process that stops in between has the notice and no marks | store that it is over, and then clear and save | `still_cleared_before_it_is_over` |
 //! | two limits for one notice: the larger one counts | one limit for each notice, in one place | `still_other_limits` |
+//! | the same notice under a new number, counted up at a restart or said twice by the desk: each number has its own count | the number belongs to the notice, and is stored with it | `still_another_number` |
 //! | asking again for somebody whose text went: each poll sends one more, up to the limit | keep who was told; where one text is enough, a limit of 1 | `still_asked_after_the_text` |
 //! | [`Pool::delete`] of a permit's key after a failed send: that attempt goes again, and the first one may have gone | nothing; the next permit is the next attempt | `still_permit_s_mark_deleted` |
 //! | keys of another making in the same set: they count as attempts, and [`Pool::clear_notice`] takes them | a set for each | `still_other_keys_in_the_set` |

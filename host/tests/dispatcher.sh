@@ -1,6 +1,6 @@
 # Sourced by host/test, after restart.sh: the example dispatcher. What it prints; and that over all its lives nobody gets more texts about
 # a notice than its limit, and no attempt goes twice, wherever it was killed or the power was cut or a call failed. Then faults are planted
-# in copies of it, and each is seen.
+# in copies of it, and each is seen, for what it is.
 
 dispatchers() {
     service_built dispatcher || return 0
@@ -12,16 +12,16 @@ dispatchers() {
     done
     one "dispatcher keeps every limit where a call or a text fails, and the next attempt goes" "$log" within_limits "$program" full
     one "dispatcher killed anywhere while it begins" "$log" killed_in_begin "$program" 12 sends_all
-    planted "the marks are begun before the book" '/^    if !store.path(Book::FILE)/,/^    }/d; s/^    store.begin()$/    store.begin()?;\n    Book::default().save(store)/' killed_in_begin 12 sends_all
-    planted "a full set sends" 's,MaySend::NoRoom =>.*,MaySend::NoRoom => println!("  text {notice}/{resident}/1: no room"),' within_limits before
-    planted "a notice is cleared to make room" 's/asked.no_room += 1,/asked.no_room += self.pool.clear_notice(notice)? as usize,/' within_limits before
-    planted "the texts go before the save" '/self.store.save(&self.pool).map_err/d; s/^        self.settle()$/        self.store.save(\&self.pool)?;\n&/' within_limits before
-    planted "a restart forgets the marks" 's/(store.load()?, /(Pool::prepare(vec![0; Pool::words_for(SLOTS)])?, /' within_limits before
-    planted "the book is saved after the clearing" 's/Ok(()) => self.book.save(self.store),/Ok(()) => Ok(()),/; s/self.clear()?;/& self.book.save(self.store)?;/' within_limits before
-    planted "a notice that is over stands again" 's/if self.over.contains(&notice)/if false \&\& self.over.contains(\&notice)/' within_limits before
-    planted "the limit is one too high" 's/may_send(text, \*limit)/may_send(text, *limit + 1)/' within_limits before
-    planted "a failed text's mark is withdrawn" 's/let (notice, resident, attempt) = /let key = permit.key(); &/; s/^ *println!("  no text /let _ = self.pool.delete(key); &/' within_limits full
-    planted "the marks are not flushed" '/file.sync_all()?;/d' within_limits data
+    planted "the marks are begun before the book" "notices: No such file" '/^    if !store.path(Book::FILE)/,/^    }/d; s/^    store.begin()$/    store.begin()?;\n    Book::default().save(store)/' killed_in_begin 12 sends_all
+    planted "a full set sends" "a text too many for 2/4;" 's,MaySend::NoRoom =>.*,MaySend::NoRoom => println!("  text {notice}/{resident}/1: no room"),' within_limits before
+    planted "a notice is cleared to make room" "attempt 1 of 2/1 is used twice;" 's/asked.no_room += 1,/asked.no_room += self.pool.clear_notice(notice)? as usize,/' within_limits before
+    planted "the texts go before the save" "a text too many for 1/1;" '/self.store.save(&self.pool).map_err/d; s/^        self.settle()$/        self.store.save(\&self.pool)?;\n&/' within_limits before
+    planted "a restart forgets the marks" "a text too many for 1/1;" 's/(store.load()?, /(Pool::prepare(vec![0; Pool::words_for(SLOTS)])?, /' within_limits before
+    planted "the book is saved after the clearing" "a text too many for 1/5;" 's/Ok(()) => self.book.save(self.store),/Ok(()) => Ok(()),/; s/self.clear()?;/& self.book.save(self.store)?;/' within_limits before
+    planted "a notice that is over stands again" "a text too many for 1/5;" 's/if self.over.contains(&notice)/if false \&\& self.over.contains(\&notice)/' within_limits before
+    planted "the limit is one too high" "attempt 2 of 1/1 is above the limit;" 's/may_send(text, \*limit)/may_send(text, *limit + 1)/' within_limits before
+    planted "a failed text's mark is withdrawn" "attempt 1 of 1/1 is used twice;" 's/let (notice, resident, attempt) = /let key = permit.key(); &/; s/^ *println!("  no text /let _ = self.pool.delete(key); &/' within_limits full
+    planted "the marks are not flushed" "marks (0 bytes): refused with code 13" '/file.sync_all()?;/d' within_limits data
 }
 
 # In this script a notice's number is its limit. The set has 8 marks: at 5:05 it is full, at 5:07 there is room again.

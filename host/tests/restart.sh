@@ -1,6 +1,7 @@
 # Sourced by host/test: the example restart. What it prints and what it refuses; and that it comes up with every mark whose text went,
 # wherever it was killed or the power was cut: tests/killer.c ends it at each of its calls in turn. Then faults are planted in copies of
-# it, and each is seen by one of these tests. What the tests of an example of examples/store share stands here too (dispatcher.sh).
+# it, and each is seen by one of these tests, for what it is. What the tests of an example of examples/store share stands here too
+# (dispatcher.sh).
 
 # Builds the example and the killer, and sets what its tests go by.
 service_built() { # EXAMPLE
@@ -28,26 +29,25 @@ restarts() {
     one "restart comes up with every mark after a power cut at every call" "$log" killed_anywhere "$program" data names
     one "restart comes up with every mark after a full disk at every call" "$log" full_anywhere "$program"
     one "restart killed anywhere while it begins" "$log" killed_in_begin "$program" 6 sends_ten
-    planted "the file is written in place" 's/File::create(&beside)/File::create(\&there)/; /fs::rename/d' killed_anywhere before after half
-    planted "the text goes before the save" '/^ *store.save(&pool)/,/})?;/d; s/send(mark);/send(mark); store.save(\&pool)?;/' killed_anywhere before after half
-    planted "the rename comes before the flush" 's/file.sync_all()?;//; s/fs::rename(.*)?;/& file.sync_all()?;/' killed_anywhere data names
-    planted "the file is not flushed" '/file.sync_all()?;/d' killed_anywhere data names
-    planted "the folder is not flushed" '/self.folder.sync_all()?;/d' killed_anywhere data names
-    planted "a failed save is passed over" 's/store.save(&pool).map_err/let _ = &/; s/})?;/});/' full_anywhere
-    planted "the folder is flushed too late" 's/self.folder.sync_all()?;//; s/^    folder: File/    pub folder: File/; s/send(mark);/& store.folder.sync_all()?;/' in_order
-    planted "an empty set in place of one that is refused" 's/store.load()?/store.load().or_else(|_| chromatic::Pool::prepare(vec![0; chromatic::Pool::words_for(127)]))?/' refuses_bad_files
-    planted "no lock is taken" 's/if !locked(&folder)/if false \&\& !locked(\&folder)/' keeps_out_a_second
-    planted "begins over marks that are there" 's/if self.marks().try_exists()/if false \&\& self.marks().try_exists()/' refuses_bad_files
+    planted "the file is written in place" "marks (0 bytes): refused with code 13" 's/File::create(&beside)/File::create(\&there)/; /fs::rename/d' killed_anywhere before after half
+    planted "the text goes before the save" "a text too many for 20:" '/^ *store.save(&pool)/,/})?;/d; s/send(mark);/send(mark); store.save(\&pool)?;/' killed_anywhere before after half
+    planted "the rename comes before the flush" "marks (0 bytes): refused with code 13" 's/file.sync_all()?;//; s/fs::rename(.*)?;/& file.sync_all()?;/' killed_anywhere data names
+    planted "the file is not flushed" "marks (0 bytes): refused with code 13" '/file.sync_all()?;/d' killed_anywhere data names
+    planted "the folder is not flushed" "a text too many for 20:" '/self.folder.sync_all()?;/d' killed_anywhere data names
+    planted "a failed save is passed over" "a text too many for 30:" 's/store.save(&pool).map_err/let _ = &/; s/})?;/});/' full_anywhere
+    planted "the folder is flushed too late" "> fsync FOLDER" 's/self.folder.sync_all()?;//; s/^    folder: File/    pub folder: File/; s/send(mark);/& store.folder.sync_all()?;/' in_order
+    planted "an empty set in place of one that is refused" "it comes up" 's/store.load()?/store.load().or_else(|_| chromatic::Pool::prepare(vec![0; chromatic::Pool::words_for(127)]))?/' refuses_bad_files
+    planted "no lock is taken" "a second one is not kept out: serve" 's/if !locked(&folder)/if false \&\& !locked(\&folder)/' keeps_out_a_second
+    planted "begins over marks that are there" "it begins over what is there" 's/if self.marks().try_exists()/if false \&\& self.marks().try_exists()/' refuses_bad_files
 }
 
-# The program with a fault in it does not pass the test.
-planted() { # FAULT SED TEST [WORDS]: the test is given the program before the words
+# The program with a fault in it does not pass the test, which says so in these words: what fails otherwise has not seen the fault.
+planted() { # FAULT SAYS SED TEST [WORDS]: the test is given the program before the words
     one "with a fault the test of $example fails: $1" "$log" seen "$@"
 }
-seen() { # FAULT SED TEST [WORDS]
-    shift
-    edit=$1 test=$2
-    shift 2
+seen() { # FAULT SAYS SED TEST [WORDS]
+    says=$2 edit=$3 test=$4
+    shift 4
     changed=0
     for file in "$example.rs" store/mod.rs; do
         sed "$edit" "$root/host/examples/$file" >"$area/planted/$file"
@@ -55,7 +55,9 @@ seen() { # FAULT SED TEST [WORDS]
     done
     [ "$changed" -eq 1 ] || { echo "the edit changes nothing: $edit"; return 1; }
     rustc --edition 2021 -A warnings --extern chromatic="$target/native/release/libchromatic.rlib" -L "dependency=$target/native/release/deps" -o "$area/planted/$example" "$area/planted/$example.rs" || return 1
-    ! "$test" "$area/planted/$example" "$@" || { echo "the fault is not seen"; return 1; }
+    ! "$test" "$area/planted/$example" "$@" >"$area/planted/said" 2>&1 || { echo "the fault is not seen"; return 1; }
+    cat "$area/planted/said"
+    grep -qF -- "$says" "$area/planted/said" || { echo "it fails otherwise than by '$says'"; return 1; }
 }
 
 # What it prints over some runs is what it is known to print.
@@ -217,9 +219,10 @@ refuses() { # PROGRAM WORDS
     status=0
     echo 20 | "$1" serve "$store" >"$area/first" 2>"$area/said" || status=$?
     cat "$area/first" "$area/said"
-    [ "$status" -eq 1 ] && [ ! -s "$area/first" ] && grep -qF "$2" "$area/said" && grep -q "^No text goes out\..*call the desk" "$area/said" &&
-        diff -r "$area/before" "$store" || return 1
-    [ ! -e "$store/marks" ] || { ! "$1" begin "$store" >"$area/first" 2>&1 && diff -r "$area/before" "$store"; }
+    [ ! -s "$area/first" ] || { echo "it comes up"; return 1; }
+    [ "$status" -eq 1 ] && grep -qF "$2" "$area/said" && grep -q "^No text goes out\..*call the desk" "$area/said" &&
+        diff -r "$area/before" "$store" || { echo "it is refused otherwise than by '$2'"; return 1; }
+    [ ! -e "$store/marks" ] || { ! "$1" begin "$store" >"$area/first" 2>&1 && diff -r "$area/before" "$store"; } || { echo "it begins over what is there"; return 1; }
 }
 
 # While one waits for its next key, another cannot begin nor serve; when it is killed, another comes up at once.
@@ -233,9 +236,8 @@ keeps_out_a_second() { # PROGRAM
     kept=1
     wait_for 'up with 1 marks' "$area/first" || kept=0
     for word in serve begin; do
-        ! echo 20 | "$1" "$word" "$store" >"$area/second" 2>"$area/said" && [ ! -s "$area/second" ] && grep -q 'another service has this folder' "$area/said" || kept=0
+        ! echo 20 | "$1" "$word" "$store" >"$area/second" 2>"$area/said" && [ ! -s "$area/second" ] && grep -q 'another service has this folder' "$area/said" || { cat "$area/second" "$area/said"; echo "a second one is not kept out: $word"; kept=0; }
     done
-    cat "$area/second" "$area/said"
     kill -9 "$service"
     exec 7>&-
     wait "$service" 2>/dev/null || :

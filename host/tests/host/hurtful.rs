@@ -2,9 +2,9 @@
 //! linear and the stack small.
 
 use crate::pair::{library_batch, library_call, library_load, library_save, same_call, same_on};
-use crate::pools::{deepest, deepest_from, Shape};
+use crate::pools::{deepest, deepest_from, grown, Shape, Weights};
 use crate::rng::Rng;
-use crate::twin::{self, write_number, Call, Command, MOST_SLOTS};
+use crate::twin::{self, write_number, Call, Command, Parts, LIMITS, MOST_SLOTS};
 use chromatic::raw;
 use std::hint::black_box;
 use std::sync::mpsc::channel;
@@ -209,15 +209,13 @@ fn least_time(mut call: impl FnMut()) -> Duration {
         .unwrap()
 }
 
-/// Time against size, `call` being told which of the sizes: eight times the size takes about eight times the time. (A square
-/// would take 64 times.) What else the machine does only adds to a time, so the least is taken, and looked for again while
-/// it is too much: what grows like a square stays above in every round.
-fn assert_linear(what: &str, unit: &str, sizes: [usize; 4], mut call: impl FnMut(usize)) {
-    let mut times = [f64::MAX; 4];
-    // 8 for the size, half as much again for the caches, and a microsecond for the clock.
-    let linear = |times: &[f64; 4]| times[3] < 12.0 * times[0] + 1000.0;
+/// The times of some calls, in nanoseconds, `call` being told which; and in how many rounds. What else the machine does only
+/// adds to a time, so the least is taken, and looked for again while the times are not good: what costs too much stays above
+/// in every round.
+fn least_times<const N: usize>(good: impl Fn(&[f64; N]) -> bool, mut call: impl FnMut(usize)) -> ([f64; N], usize) {
+    let mut times = [f64::MAX; N];
     let mut rounds = 0;
-    while rounds == 0 || rounds < 200 && !linear(&times) {
+    while rounds == 0 || rounds < 200 && !good(&times) {
         if rounds > 0 {
             thread::sleep(Duration::from_millis(10));
         }
@@ -226,6 +224,15 @@ fn assert_linear(what: &str, unit: &str, sizes: [usize; 4], mut call: impl FnMut
         }
         rounds += 1;
     }
+    (times, rounds)
+}
+
+/// Time against size, `call` being told which of the sizes: eight times the size takes about eight times the time. (A square
+/// would take 64 times.)
+fn assert_linear(what: &str, unit: &str, sizes: [usize; 4], call: impl FnMut(usize)) {
+    // 8 for the size, half as much again for the caches, and a microsecond for the clock.
+    let linear = |times: &[f64; 4]| times[3] < 12.0 * times[0] + 1000.0;
+    let (times, rounds) = least_times(linear, call);
     println!("measured {what}: {times:.0?} ns for {unit} = {sizes:?}, in {rounds} rounds");
     assert!(linear(&times), "{what}: {times:?} in {rounds} rounds");
 }
@@ -279,6 +286,32 @@ fn may_send_stays_linear() {
             assert_eq!(library_call(black_box(&mut pools[size]), Call::Clear { notice: 2 }), (0, 0));
         });
     }
+}
+
+/// In a settled pool full of other marks: a clearing that finds nothing does not ask for the 57,344 marks that the notice could
+/// have, and may_send audits once, for its seven searches too are little beside an audit.
+#[test]
+fn the_send_limit_costs_about_an_audit() {
+    // Every odd notice has one resident's seven marks.
+    let marks = (0..).flat_map(|i| LIMITS.map(move |attempt| Parts { notice: 2 * i + 1, resident: i, attempt }.key()));
+    let keys: Vec<u32> = marks.take(MOST_SLOTS.div_ceil(2)).collect();
+    let mut pool = grown(&mut Rng::seeded("a pool full of marks", 1), MOST_SLOTS, &keys, 1, Shape::Halves, Weights::Red).words();
+    assert_eq!(library_batch(&mut pool, &Command::all(&[Command::Settle(u32::MAX)]), &mut [0; 2]), (0, 0));
+    assert_eq!(raw::report(&pool, 7), 0, "nothing is left to settle");
+    let (none, all_used) = (Call::Clear { notice: 74 }, Call::MaySend { notice: 73, resident: 36, limit: 7 });
+    // A microsecond is for the clock, so it is for ten calls.
+    let good = |&[audit, clear, send]: &[f64; 3]| clear < 8.0 * audit + 1000.0 && send < 1.7 * audit + 1000.0;
+    let (times, rounds) = least_times(good, |which| {
+        for _ in 0..10 {
+            match which {
+                0 => assert_eq!(raw::audit(black_box(&pool)), 0),
+                1 => assert_eq!(library_call(black_box(&mut pool), none), (0, 0)),
+                _ => assert_eq!(library_call(black_box(&mut pool), all_used), (16, 0)),
+            }
+        }
+    });
+    println!("measured ten audits, clearings of nothing and may_send that are all used: {times:.0?} ns at C = 1,023, in {rounds} rounds");
+    assert!(good(&times), "{times:?} in {rounds} rounds");
 }
 
 #[test]
