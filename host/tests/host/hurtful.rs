@@ -300,7 +300,7 @@ fn the_send_limit_costs_about_an_audit() {
     assert_eq!(raw::report(&pool, 7), 0, "nothing is left to settle");
     let (none, all_used) = (Call::Clear { notice: 74 }, Call::MaySend { notice: 73, resident: 36, limit: 7 });
     // A microsecond is for the clock, so it is for ten calls.
-    let good = |&[audit, clear, send]: &[f64; 3]| clear < 8.0 * audit + 1000.0 && send < 1.7 * audit + 1000.0;
+    let good = |&[audit, clear, send]: &[f64; 3]| clear < 1.7 * audit + 1000.0 && send < 1.7 * audit + 1000.0;
     let (times, rounds) = least_times(good, |which| {
         for _ in 0..10 {
             match which {
