@@ -12,7 +12,7 @@ use native.Mathlib.Decide.{ℕ-discrete}
 use Prim.Native.Nat.{ℕ, _+_, _≤_, _<_}
 use Rattle.set.specs.Operations.{codeOf, numberOf, Call}
 use Rattle.set.specs.Set.{Passing}
-use Rattle.set.proofs.Promises.{Words32, passing-length}
+use Rattle.set.proofs.Promises.{Words32}
 use Rattle.ledger.specs.Ledger.{noticeKeys, noticeGood, markKey, attemptOf, clearedFrom, clearing, clearNotice}
 use Rattle.ledger.specs.Sends.{NoticeIn, IsMark, Cleaned, ClearEnds, clears-15, clears-1, clears-2, clears-0, ClearCodes}
 use Rattle.ledger.proofs.Arguments.{notice-good-is, mark-of}

@@ -11,9 +11,9 @@ use mathlib.Core.List.{List}
 use native.Mathlib.Omega.{arith}
 use Prim.Native.Nat.{ℕ, zero, suc, pred, _+_, _≤_, _<_}
 use Rattle.tree.specs.declared.Answer.{Answer}
-use Rattle.set.specs.Operations.{keyEnd, codeOf, numberOf, Call, lengthGood, insertAnswer}
+use Rattle.set.specs.Operations.{keyEnd, codeOf, numberOf, Call, insertAnswer}
 use Rattle.set.specs.Set.{Passing, member, room, needed, Inserted, key-present, room-lacking, inserted}
-use Rattle.set.proofs.Promises.{Words32, passing-words, passing-length, member-once, insert-says, insert-done, insert-passing}
+use Rattle.set.proofs.Promises.{Words32, passing-words, member-once, insert-says, insert-done, insert-passing}
 use Rattle.ledger.specs.Ledger.{argumentsGood, markKey, lowestFrom, asked, maySend}
 use Rattle.ledger.specs.Sends.{ArgumentsIn, marksTo, AllMarked, Lowest, SendEnds, sends-15, sends-1, sends-2, sends-16, sends-7, sends-0, SendCodes, Sent}
 use Rattle.ledger.proofs.Arguments.{arguments-good-is, key-from, key-small}
