@@ -8,7 +8,7 @@ use mathlib.Core.List.{List}
 use Prim.Native.Nat.{ℕ, _<_, _^_}
 use native.Mathlib.Omega.{arith}
 use lib.ListN.{getD}
-use Rattle.tree.specs.State.{State, levelTop, Sound}
+use Rattle.tree.specs.State.{State, Sound}
 use Rattle.format.specs.declared.Header.{Header}
 use Rattle.format.specs.declared.Audited.{Audited}
 use Rattle.format.specs.declared.Audited.the-variants.{Length, Broken, Passed}
@@ -24,7 +24,7 @@ Words32 p = (i : ℕ) → getD p i 0 < 2 ^ 32
 pub data Case (p : List ℕ) : Audited → Type 0 where
   wrong-length : lengthGood p ≡ false → Case p Length
   rules-broken : lengthGood p ≡ true → rulesHold p ≡ false → Case p Broken
-  rules-kept : lengthGood p ≡ true → rulesHold p ≡ true → Case p (Passed (headerOf p) (levelTop ((stateOf p) .top)))
+  rules-kept : lengthGood p ≡ true → rulesHold p ≡ true → Case p (Passed (headerOf p))
 
 module _ (p : List ℕ) where
   pub audited-case : Case p (audited p)
@@ -45,12 +45,12 @@ module _ (p : List ℕ) where
   unfolding audited
   audited-broken h e = rw (h, e, audited)
 
-  pub audited-kept : lengthGood p ≡ true → rulesHold p ≡ true → audited p ≡ Passed (headerOf p) (levelTop ((stateOf p) .top))
+  pub audited-kept : lengthGood p ≡ true → rulesHold p ≡ true → audited p ≡ Passed (headerOf p)
   unfolding audited
   audited-kept h e = rw (h, e, audited)
 
-  pub audited-passed : {S : State} → Sound S → PoolShows p S → audited p ≡ Passed (headerOf p) (levelTop (S .top))
-  audited-passed sound shows = let g = show-rules sound shows in audited-kept (g .0) (g .1) ∙ rw (g .2)
+  pub audited-passed : {S : State} → Sound S → PoolShows p S → audited p ≡ Passed (headerOf p)
+  audited-passed sound shows = let g = show-rules sound shows in audited-kept (g .0) (g .1)
 
 -- What a caller knows of the words by the answer.
 case-length : {p : List ℕ} → Case p Length → lengthGood p ≡ false
@@ -65,28 +65,27 @@ case-broken (rules-broken h f) = (h, f)
 pub rules-are-broken : (p : List ℕ) → audited p ≡ Broken → (lengthGood p ≡ true) × (rulesHold p ≡ false)
 rules-are-broken p e = case-broken (rw e at (audited-case p))
 
-pub record Kept (p : List ℕ) (h : Header) (l : ℕ) : Type 0 where
+pub record Kept (p : List ℕ) (h : Header) : Type 0 where
   pub length-good : lengthGood p ≡ true
   pub rules-hold : rulesHold p ≡ true
   pub header-is : h ≡ headerOf p
-  pub level-is : l ≡ levelTop ((stateOf p) .top)
   pub sound : Sound (stateOf p)
   pub shows : Shows h p (stateOf p)
 
-case-kept : {p : List ℕ} {h : Header} {l : ℕ} → Words32 p → Case p (Passed h l) → Kept p h l
+case-kept : {p : List ℕ} {h : Header} → Words32 p → Case p (Passed h) → Kept p h
 case-kept {p} words (rules-kept g f) =
     let S = rules-show (headerOf p) p g f words in
-    record { length-good = g; rules-hold = f; header-is = refl; level-is = refl; sound = S .0; shows = S .1 }
+    record { length-good = g; rules-hold = f; header-is = refl; sound = S .0; shows = S .1 }
 
-pub rules-are-kept : (p : List ℕ) {h : Header} {l : ℕ} → Words32 p → audited p ≡ Passed h l → Kept p h l
+pub rules-are-kept : (p : List ℕ) {h : Header} → Words32 p → audited p ≡ Passed h → Kept p h
 rules-are-kept p words e = case-kept words (rw e at (audited-case p))
 
 -- The same by the code.
-pub code-kept : (p : List ℕ) → Words32 p → auditCode p ≡ 0 → Kept p (headerOf p) (levelTop ((stateOf p) .top))
+pub code-kept : (p : List ℕ) → Words32 p → auditCode p ≡ 0 → Kept p (headerOf p)
 unfolding auditCode
 code-kept p words = go (audited-case p)
   where
-    go : {r : Audited} → Case p r → auditedCode r ≡ 0 → Kept p (headerOf p) (levelTop ((stateOf p) .top))
+    go : {r : Audited} → Case p r → auditedCode r ≡ 0 → Kept p (headerOf p)
     go (wrong-length h) e = absurd (omega arith)
     go (rules-broken h f) e = absurd (omega arith)
     go (rules-kept h f) e = case-kept words (rules-kept h f)

@@ -15,11 +15,11 @@ use native.Mathlib.Omega.{arith}
 use native.Mathlib.Decide.{decLe}
 use Rattle.format.specs.declared.Header.{Header}
 use Rattle.format.specs.declared.Slot.{Slot}
-use Rattle.format.specs.Words.{slotAt, slotsIn, lengthGood, freeWeight, rootOf, spareOf, shownHeader}
+use Rattle.format.specs.Words.{slotAt, slotsIn, lengthGood, freeWeight, rootOf, shownHeader}
 use Rattle.format.specs.Shows.{At, Holds, holds-leaf, holds-node, HoldsTop, Chain, chain-end, chain-more, Shows}
 use Rattle.tree.specs.Codes.{mostSlots, mostLevel}
 use Rattle.tree.specs.Tree.{Tree, leaf, node, slotOf, size, one, count, countIn, Ordered, level, Chromatic}
-use Rattle.tree.specs.State.{State, state, Top, empty, full, nodes, countTop, keyEnd, GoodTop, Sound}
+use Rattle.tree.specs.State.{State, state, Top, empty, full, nodes, levelTop, countTop, keyEnd, GoodTop, Sound}
 use Rattle.format.proofs.Slots.{header-eq}
 use Rattle.tree.proofs.Order.{ordered-bounds, ordered-widen}
 use Rattle.tree.proofs.Counts.{OneOf, one-other, one-most, is-same, in-node, in-chain}
@@ -27,7 +27,7 @@ use Rattle.tree.proofs.Totals.{total, total-add, total-all, total-top, total-ch
 use Rattle.tree.proofs.SoundStates.{sound-total}
 use Rattle.format.proofs.Frame.{holds-one, chain-one, holds-at, chain-at, chain-head}
 use Rattle.format.proofs.Replace.{In, top, in-left, in-right, in-holds, find-slot}
-use Rattle.format.proofs.Shown.{shows-root, shows-free, shows-nodes, shows-spare, shows-length-good, good-length}
+use Rattle.format.proofs.Shown.{shows-root, shows-free, shows-nodes, shows-level, shows-length-good, good-length}
 
 -- The order: no tree lies on both sides of a number.
 one-side : (lo m hi : ℕ) (t : Tree) → Ordered lo m t → Ordered m hi t → ⊥
@@ -203,20 +203,20 @@ pub record LocalFacts (h : Header) (p : List ℕ) (t : Top) (fs : List ℕ) : Ty
   pub length-good : lengthGood p ≡ true
   pub root-is : h .root ≡ rootOf t
   pub nodes-is : h .nodes ≡ nodes t
-  pub spare-is : h .spare ≡ spareOf t
+  pub level-is : h .level ≡ levelTop t
   pub tree-held : HoldsTop p t
   pub tree-good : GoodTop t
   pub chain-held : Chain p (h .free) fs
   pub all-slots : nodes t + length fs ≡ slotsIn p
 
 -- the one way to build them
-pub local-facts : {h : Header} {p : List ℕ} {t : Top} {fs : List ℕ} → lengthGood p ≡ true → h .root ≡ rootOf t → h .nodes ≡ nodes t → h .spare ≡ spareOf t
+pub local-facts : {h : Header} {p : List ℕ} {t : Top} {fs : List ℕ} → lengthGood p ≡ true → h .root ≡ rootOf t → h .nodes ≡ nodes t → h .level ≡ levelTop t
     → HoldsTop p t → GoodTop t → Chain p (h .free) fs → nodes t + length fs ≡ slotsIn p → LocalFacts h p t fs
-local-facts length root count spare tree good chain all = record {
+local-facts length root count level tree good chain all = record {
   length-good = length;
   root-is = root;
   nodes-is = count;
-  spare-is = spare;
+  level-is = level;
   tree-held = tree;
   tree-good = good;
   chain-held = chain;
@@ -229,7 +229,7 @@ facts-shows {p = p} facts =
     let e = chain-head (facts .chain-held) in
     record {
       length-is = good-length p (facts .length-good) .length-is;
-      header-is = header-eq (facts .root-is) e (facts .nodes-is) (facts .spare-is);
+      header-is = header-eq (facts .root-is) e (facts .nodes-is) (facts .level-is);
       tree-held = facts .tree-held;
       chain-held = rw e at (facts .chain-held);
     }
@@ -242,5 +242,5 @@ facts-sound {p = p} facts =
 pub sound-local : {h : Header} {p : List ℕ} {S : State} → Sound S → Shows h p S → LocalFacts h p (S .top) (S .free)
 sound-local {p = p} {S} sound shows =
     let g = shows-length-good sound shows in
-    local-facts (g .0) (shows-root shows) (shows-nodes shows) (shows-spare shows) (shows .tree-held) (sound .good)
+    local-facts (g .0) (shows-root shows) (shows-nodes shows) (shows-level shows) (shows .tree-held) (sound .good)
     (rw (shows-free shows) (shows .chain-held)) (sound-total sound ∙ sym (g .1))

@@ -9,11 +9,11 @@ use native.Mathlib.Omega.{arith}
 use lib.ListN.{length, getD, length-append}
 use borrow.Author.Tests.{eqb-true}
 use Rattle.format.specs.declared.Header.{Header}
-use Rattle.format.specs.Words.{slotsIn, lengthGood, rootOf, spareOf}
+use Rattle.format.specs.Words.{slotsIn, lengthGood, rootOf, headOf}
 use Rattle.format.specs.Shows.{HoldsTop, Chain, Shows}
-use Rattle.format.specs.Audit.{isSlot, Found, chainEnds, treeFound, chainFound, slotsOf, rulesUnder, topOf, stateUnder}
+use Rattle.format.specs.Audit.{isSlot, Found, chainEnds, treeFound, chainFound, slotsOf, rootSums, rulesUnder, topOf, stateUnder}
 use Rattle.tree.specs.Tree.{countIn}
-use Rattle.tree.specs.State.{State, state, Top, empty, full, nodes, Sound}
+use Rattle.tree.specs.State.{State, state, Top, empty, full, nodes, levelTop, Sound}
 use Rattle.tree.proofs.Counts.{OneOf}
 use Rattle.tree.proofs.Order.{countIn-append}
 use Rattle.tree.proofs.Totals.{total-each, total-chain}
@@ -25,7 +25,7 @@ use Rattle.format.proofs.RulesSlots.{slot-range}
 use Rattle.format.proofs.RulesFound.{follow-out, found-slots, found-holds}
 use Rattle.format.proofs.RulesChain.{chain-slots, chain-free, chain-found, found-chain}
 use Rattle.format.proofs.RulesSums.{root-weight}
-use Rattle.format.proofs.RulesTop.{foundTop, count-top, length-top, top-found, top-rules, rules-top, top-root, top-follow, top-children}
+use Rattle.format.proofs.RulesTop.{foundTop, count-top, length-top, top-found, top-rules, rules-top, top-level, top-root, top-follow, top-children}
 use Rattle.format.proofs.RulesFacts.{timesFound, Facts, rules-facts, facts-rules}
 
 -- Rules to State.
@@ -88,10 +88,12 @@ module _ (h : Header) (p : List ℕ) (good : lengthGood p ≡ true) (f : Facts h
     nodes-seen : length (slotsOf (treeFound h p)) ≡ nodes T
     nodes-seen = ap (λ (x : Found). length (slotsOf x)) (v .is) ∙ length-top T
 
+    level-seen : headOf (rootSums (treeFound h p)) ≡ levelTop T
+    level-seen = ap (λ (x : Found). headOf (rootSums x)) (v .is) ∙ top-level p T (v .holds)
+
     seen-local : ((i : ℕ) → getD p i 0 < 2 ^ 32) → LocalFacts h p T (chainFound h p)
-    unfolding spareOf
     seen-local words =
-        local-facts good (v .root) (f .nodes ∙ nodes-seen) (f .spare) (v .holds) (rules-top p T words (v .holds) (rw (v .is) at (f .tree))) chain-seen
+        local-facts good (v .root) (f .nodes ∙ nodes-seen) (f .level ∙ level-seen) (v .holds) (rules-top p T words (v .holds) (rw (v .is) at (f .tree))) chain-seen
         (omega (arith, all-found, nodes-seen))
 
 -- A pool in which the rules hold shows a sound State. (Its words are 32-bit numbers, and so are its keys.)
@@ -119,9 +121,9 @@ module _ {h : Header} {p : List ℕ} {S : State} (sound : Sound S) (shows : Show
   chain-is = chain-found p (local .chain-held) (suc (slotsIn p)) (omega (arith, local .all-slots))
 
   facts : Facts h p
-  unfolding timesFound spareOf
+  unfolding timesFound
   facts = record {
-    spare = local .spare-is;
+    level = rw (tree-is, top-level p (S .top) (shows .tree-held)) (local .level-is);
     once = λ s a b. rw (tree-is, chain-is .0, count-top) (sound .once s a (omega (arith, slots-same)));
     nodes = rw (tree-is, length-top) (local .nodes-is);
     root = rw (local .root-is, local .nodes-is) (top-root p (S .top) (shows .tree-held));

@@ -9,8 +9,8 @@ use lib.Dec.{eqb}
 use lib.ListN.{length}
 use borrow.Author.Tests.{eqb-true, eq-eqb}
 use Rattle.format.specs.declared.Header.{Header}
-use Rattle.format.specs.Words.{slotsIn}
-use Rattle.format.specs.Audit.{isSlot, treeFound, chainFound, chainEnds, slotsOf, all, same, freeWords, children, rule-spare, rule-once, rule-free, rule-children, rule-order, rule-weights, rule-sums, rules, allTrue, rulesUnder}
+use Rattle.format.specs.Words.{slotsIn, headOf}
+use Rattle.format.specs.Audit.{isSlot, treeFound, chainFound, chainEnds, slotsOf, all, same, freeWords, children, rootSums, rule-level, rule-once, rule-free, rule-children, rule-order, rule-weights, rule-sums, rules, allTrue, rulesUnder}
 use Rattle.tree.specs.Tree.{countIn}
 use Rattle.format.proofs.RulesTests.{and-intro, all-change, from-each, each-from}
 use Rattle.format.proofs.RulesSlots.{slot-range}
@@ -25,7 +25,7 @@ abbrev pub Once : Header → List ℕ → Type 0
 Once h p = (s : ℕ) → 1 ≤ s → s ≤ slotsIn p → timesFound h p s ≡ 1
 
 pub record Facts (h : Header) (p : List ℕ) : Type 0 where
-  pub spare : h .spare ≡ 0
+  pub level : h .level ≡ headOf (rootSums (treeFound h p))
   pub once : Once h p
   pub nodes : h .nodes ≡ length (slotsOf (treeFound h p))
   pub root : same (eqb (h .root) 0) (eqb (h .nodes) 0) ≡ true
@@ -46,7 +46,7 @@ module _ (h : Header) (p : List ℕ) where
 
   -- each rule by itself
   record Ruled : Type 0 where
-    pub spare : rule-spare h ≡ true
+    pub level : rule-level h p ≡ true
     pub once : rule-once h p ≡ true
     pub free : rule-free h p ≡ true
     pub inner : rule-children h p ≡ true
@@ -59,7 +59,7 @@ module _ (h : Header) (p : List ℕ) where
   ruled a =
       let g = simp and-eq-true-iff at a in
       record {
-        spare = g .0;
+        level = g .0;
         once = g .1 .0;
         free = g .1 .1 .0;
         inner = g .1 .1 .1 .0;
@@ -69,14 +69,14 @@ module _ (h : Header) (p : List ℕ) where
       }
 
   pub rules-facts : rulesUnder h p ≡ true → Facts h p
-  unfolding rule-spare rule-once rule-free rule-children rule-order rule-weights rule-sums timesFound
+  unfolding rule-level rule-once rule-free rule-children rule-order rule-weights rule-sums timesFound
   rules-facts r =
       let R = ruled r in
       let a = simp and-eq-true-iff at (R .once) in
       let b = simp and-eq-true-iff at (R .free) in
       let once : Once h p = λ s c d. eqb-true (timesFound h p s) 1 (each-from (λ x. eqb (timesFound h p x) 1) 1 (slotsIn p) (a .0 .0) s c (omega arith)) in
       record {
-        spare = eqb-true (h .spare) 0 (R .spare);
+        level = eqb-true (h .level) (headOf (rootSums (treeFound h p))) (R .level);
         once = once;
         nodes = eqb-true (h .nodes) (length (slotsOf (treeFound h p))) (a .0 .1);
         root = a .1;
@@ -87,10 +87,10 @@ module _ (h : Header) (p : List ℕ) where
       }
 
   pub facts-rules : Facts h p → rulesUnder h p ≡ true
-  unfolding rulesUnder rules allTrue rule-spare rule-once rule-free rule-children rule-order rule-weights rule-sums timesFound
+  unfolding rulesUnder rules allTrue rule-level rule-once rule-free rule-children rule-order rule-weights rule-sums timesFound
   facts-rules f =
       let each = from-each (λ s. eqb (timesFound h p s) 1) 1 (slotsIn p) (λ s a b. eq-eqb (timesFound h p s) 1 (f .once s a (omega arith))) in
       let count = eq-eqb (h .nodes) (length (slotsOf (treeFound h p))) (f .nodes) in
       let free = all-change (freeWords p) (λ s. not (eqb (countIn s (slotsOf (treeFound h p))) 0) || freeWords p s) (chainFound h p) (λ s m d. rw (d, or-true)) (f .free) in
-      and-intro (eq-eqb (h .spare) 0 (f .spare)) (and-intro (and-intro (and-intro each count) (f .root)) (and-intro (and-intro free (f .ends))
+      and-intro (eq-eqb (h .level) (headOf (rootSums (treeFound h p))) (f .level)) (and-intro (and-intro (and-intro each count) (f .root)) (and-intro (and-intro free (f .ends))
       (and-intro (f .inner) (and-intro (f .tree .order) (and-intro (f .tree .weights) (and-intro (f .tree .sums) refl))))))

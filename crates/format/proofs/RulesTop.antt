@@ -13,7 +13,7 @@ use Rattle.format.specs.Shows.{Holds, HoldsTop}
 use Rattle.format.specs.Audit.{Found, nothing, follow, slotsOf, all, same, children, routed, rootWeighed, rootSums, treeOf, topOf}
 use Rattle.tree.specs.Codes.{mostLevel}
 use Rattle.tree.specs.Tree.{Tree, leaf, node, slotOf, size, level, sumsFrom, countIn}
-use Rattle.tree.specs.State.{Top, empty, full, nodes, countTop, Good, GoodTop, keyEnd}
+use Rattle.tree.specs.State.{Top, empty, full, nodes, levelTop, countTop, Good, GoodTop, keyEnd}
 use Rattle.format.proofs.Frame.{holds-root}
 use Rattle.format.proofs.RulesTests.{and-intro}
 use Rattle.format.proofs.RulesSlots.{zero-no-slot}
@@ -84,6 +84,12 @@ module _ (p : List ℕ) where
   unfolding foundTop HoldsTop GoodTop
   rules-top empty words h g = tt
   rules-top (full t) words h g = rules-good words h g
+
+  -- L, by the first leaf's sum
+  pub top-level : (T : Top) → HoldsTop p T → headOf (rootSums (foundTop T)) ≡ levelTop T
+  unfolding foundTop HoldsTop rootSums levelTop
+  top-level empty h = refl
+  top-level (full t) h = rw (root-sums h) (level-first t)
 
   pub top-root : (T : Top) → HoldsTop p T → same (eqb (rootOf T) 0) (eqb (nodes T) 0) ≡ true
   unfolding HoldsTop rootOf nodes same

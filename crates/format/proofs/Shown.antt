@@ -15,11 +15,11 @@ use native.Mathlib.Decide.{decLe}
 use borrow.Author.Tests.{eqb-true, eq-eqb, leb-true, le-leb}
 use Rattle.format.specs.declared.Header.{Header}
 use Rattle.format.specs.declared.Slot.{Slot}
-use Rattle.format.specs.Words.{header, slot, headerOf, putHeader, slotAt, slotsIn, lengthGood, freeSlot, headOf, inTree, inChain, inTop, rootOf, spareOf, shownSlot, shownHeader, wordsOf}
+use Rattle.format.specs.Words.{header, atLevel, slot, headerOf, putHeader, slotAt, slotsIn, lengthGood, freeSlot, headOf, inTree, inChain, inTop, rootOf, shownSlot, shownHeader, wordsOf}
 use Rattle.format.specs.Shows.{At, Holds, holds-leaf, holds-node, HoldsTop, Chain, chain-end, chain-more, Shows, PoolShows}
 use Rattle.tree.specs.Codes.{mostSlots}
-use Rattle.tree.specs.Tree.{Tree, leaf, node, slotOf, size, count, countIn}
-use Rattle.tree.specs.State.{State, state, Top, empty, full, nodes, countTop, Sound}
+use Rattle.tree.specs.Tree.{Tree, leaf, node, slotOf, size, count, countIn, level}
+use Rattle.tree.specs.State.{State, state, Top, empty, full, nodes, levelTop, countTop, Sound}
 use Rattle.tree.proofs.SoundStates.{state-eq}
 pub use Rattle.tree.proofs.SoundStates.{sound-once, sound-within}
 use Rattle.tree.proofs.Tests.{two-true}
@@ -193,9 +193,9 @@ pub shows-nodes : {h : Header} {p : List ℕ} {S : State} → Shows h p S → h 
 unfolding shownHeader
 shows-nodes shows = ap (λ (h : Header). h .nodes) (shows .header-is)
 
-pub shows-spare : {h : Header} {p : List ℕ} {S : State} → Shows h p S → h .spare ≡ spareOf (S .top)
+pub shows-level : {h : Header} {p : List ℕ} {S : State} → Shows h p S → h .level ≡ levelTop (S .top)
 unfolding shownHeader
-shows-spare shows = ap (λ (h : Header). h .spare) (shows .header-is)
+shows-level shows = ap (λ (h : Header). h .level) (shows .header-is)
 
 -- A header and a pool's words show at most one State, sound or not.
 top-one : (p : List ℕ) (t u : Top) → HoldsTop p t → HoldsTop p u → rootOf t ≡ rootOf u → t ≡ u
@@ -265,20 +265,20 @@ pub record FirstFree (p : List ℕ) (a : ℕ) (fs : List ℕ) : Type 0 where
 pub chain-first : {p : List ℕ} {s a : ℕ} {fs : List ℕ} → Chain p s (a ∷ fs) → FirstFree p a fs
 chain-first (chain-more h c) = let e = chain-head c in record { first = rw e at h; rest = rw e at c }
 
--- What a step has to show: the subtree a became b, of the same root's slot and size, in a's slots alone. The header stays. (Of its
--- fourth word only what the State says of it.)
+-- What a step has to show: the subtree a became b, of the same root's slot and size, in a's slots alone. The header stays, but for L, which
+-- is the new tree's.
 pub shows-replaced : {h : Header} {p p′ : List ℕ} {S : State} {t u : Tree} {p₀ q : ℕ} {a b : Tree} → Sound S → S .top ≡ full t → Shows h p S
-    → In p₀ a q b 1 t 1 u → slotOf b ≡ slotOf a → size b ≡ size a → spareOf (full u) ≡ spareOf (full t)
+    → In p₀ a q b 1 t 1 u → slotOf b ≡ slotOf a → size b ≡ size a
     → length p′ ≡ length p → ((s : ℕ) → count s a ≡ 0 → slotAt p′ s ≡ slotAt p s)
-    → Holds p′ q b → Shows h p′ (state (S .slots) (full u) (S .free))
-unfolding HoldsTop shownHeader rootOf nodes
-shows-replaced {h} {S = S} {t} {u} sound top shows i e z x m f g =
+    → Holds p′ q b → Shows (atLevel h (level u)) p′ (state (S .slots) (full u) (S .free))
+unfolding HoldsTop shownHeader rootOf nodes levelTop
+shows-replaced {h} {S = S} {t} {u} sound top shows i e z m f g =
     let once = placed-once sound top in
     let size-same : size t ≡ size u = omega (arith, in-size i) in
-    let was : h ≡ header (slotOf t) (headOf (S .free)) (size t) (spareOf (full t)) = rw top at (shows .header-is) in
+    let was : h ≡ header (slotOf t) (headOf (S .free)) (size t) (level t) = rw top at (shows .header-is) in
     record {
       length-is = m ∙ shows .length-is;
-      header-is = was ∙ header-eq (sym (in-slot i e)) refl size-same (sym x);
+      header-is = rw was (header-eq (sym (in-slot i e)) refl size-same refl);
       tree-held = replace i e (λ s. omega (arith, once s)) m (λ s j n. f s n) (shows-tree shows top) g;
       chain-held = chain-frame (shows .chain-held) m (λ s j. f s (omega (arith, once s, in-count s i)));
     }

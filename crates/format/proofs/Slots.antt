@@ -11,7 +11,7 @@ use lib.ListN.{length, getD, set, length-set}
 use lib.Seq.{getD-set-same, getD-set-other, set-getD, ext-getD}
 use Rattle.format.specs.declared.Header.{Header}
 use Rattle.format.specs.declared.Slot.{Slot}
-use Rattle.format.specs.Words.{wordOf, header, slot, headerOf, putHeader, slotAt, putSlot, slotsFrom, shownHeader, shownSlot, wordsOf}
+use Rattle.format.specs.Words.{wordOf, header, atLevel, slot, headerOf, putHeader, putLevel, slotAt, putSlot, slotsFrom, shownHeader, shownSlot, wordsOf}
 use Rattle.tree.specs.State.{State}
 
 -- headers and slots are equal where their fields are
@@ -23,7 +23,7 @@ slot-eq e f g h = cc
 
 -- A header and a slot are four words each, so a header can be read as a slot and a slot as a header.
 asSlot : Header → Slot
-asSlot h = slot (h .root) (h .free) (h .nodes) (h .spare)
+asSlot h = slot (h .root) (h .free) (h .nodes) (h .level)
 
 asHeader : Slot → Header
 asHeader c = header (c .key) (c .left) (c .right) (c .weight)
@@ -109,6 +109,11 @@ header-after-slot p s c l = ap asHeader (four-other p (wordOf s) c 0 (λ m b. om
 pub header-kept : (p : List ℕ) → putHeader p (headerOf p) ≡ p
 unfolding headerOf putHeader
 header-kept p = simp set-getD
+
+-- To write L is to write the header with L another.
+pub level-alone : (p : List ℕ) (l : ℕ) → putHeader p (atLevel (headerOf p) l) ≡ putLevel p l
+unfolding headerOf putHeader putLevel
+level-alone p l = simp set-getD
 
 -- Header and slots are all the words there are: pools of n slots in which they agree are equal.
 word-at : (p q : List ℕ) (s j : ℕ) → j < 4 → slotAt p s ≡ slotAt q s → getD p (4 * s + j) 0 ≡ getD q (4 * s + j) 0

@@ -14,7 +14,7 @@ use Rattle.format.specs.Words.{headerOf, slotAt, slotsIn, lengthGood, fr
 use Rattle.tree.specs.declared.Refusal.the-variants.{PoolLength, RulesBroken}
 use Rattle.tree.specs.Codes.{mostLevel, code}
 use Rattle.tree.specs.Tree.{Tree, leaf, node, countIn}
-use Rattle.tree.specs.State.{State, state, Top, empty, full, levelTop}
+use Rattle.tree.specs.State.{State, state, Top, empty, full}
 
 -- "Slots are numbered from 1; 0 is no slot."
 unfoldable pub isSlot : List ℕ → ℕ → Bool
@@ -133,14 +133,15 @@ rootSums (found s c l r) = elim (bare c) [ true ↦ 0 ∷ [] | false ↦ sumsOf 
 unfoldable pub rule-sums : Header → List ℕ → Bool
 rule-sums h p = let sums = rootSums (treeFound h p) in all (λ n. eqb n (headOf sums)) sums && leb (headOf sums) mostLevel
 
--- RULES 2.1: the header's fourth word, "one word that is 0", has a rule of its own: no bullet names it.
-unfoldable pub rule-spare : Header → Bool
-rule-spare h = eqb (h .spare) 0
+-- RULES 2.1, 02 (v): "Keep L in the fourth header word [..]. The audit checks it against the weights; 01's rule that this word is 0 is
+-- replaced." L is the first leaf's sum, as RULES 2.7 compares each leaf's with it; there is none where there is no leaf, and L is 0.
+unfoldable pub rule-level : Header → List ℕ → Bool
+rule-level h p = eqb (h .level) (headOf (rootSums (treeFound h p)))
 
 -- The rules in 01's order, the header's word first (RULES 2.1 to 2.7). Code 2 (RULES 9.2): "audit rules broken".
 unfoldable pub rules : Header → List ℕ → List Bool
 rules h p =
-    rule-spare h ∷ rule-once h p ∷ rule-free h p ∷ rule-children h p ∷ rule-order h p ∷ rule-weights h p ∷ rule-sums h p ∷ []
+    rule-level h p ∷ rule-once h p ∷ rule-free h p ∷ rule-children h p ∷ rule-order h p ∷ rule-weights h p ∷ rule-sums h p ∷ []
 
 unfoldable pub allTrue : List Bool → Bool
 allTrue [] = true
@@ -173,17 +174,17 @@ abbrev pub stateOf : List ℕ → State
 stateOf p = stateUnder (headerOf p) p
 
 -- RULES 2.8: all that the audit learns, and the one order of refusals 1 and 2 (RULES 9.1 and 9.2). 1: "pool length is not 4 + 4C";
--- 2: "audit rules broken"; or the header and L of what the words show.
+-- 2: "audit rules broken"; or the header.
 unfoldable pub audited : List ℕ → Audited
 audited p = elim (lengthGood p) [
   | false ↦ Length
-  | true ↦ elim (rulesHold p) [ false ↦ Broken | true ↦ Passed (headerOf p) (levelTop ((stateOf p) .top)) ]
+  | true ↦ elim (rulesHold p) [ false ↦ Broken | true ↦ Passed (headerOf p) ]
 ]
 
 abbrev pub auditedCode : Audited → ℕ
 auditedCode Length = code PoolLength
 auditedCode Broken = code RulesBroken
-auditedCode (Passed h l) = 0
+auditedCode (Passed h) = 0
 
 -- RULES 10.1: "audit [gives] 0, 1 or 2"
 unfoldable pub auditCode : List ℕ → ℕ

@@ -10,14 +10,18 @@ use Rattle.format.specs.declared.Header.{Header}
 use Rattle.format.specs.declared.Slot.{Slot}
 use Rattle.tree.specs.Codes.{mostSlots}
 use Rattle.tree.specs.Tree.{Tree, leaf, node, slotOf}
-use Rattle.tree.specs.State.{State, state, Top, empty, full, nodes}
+use Rattle.tree.specs.State.{State, state, Top, empty, full, nodes, levelTop}
 
 -- RULES 1.2: "4 header words, then 4 words for each of C slots [..] Slots are numbered from 1": the words of slot s begin here.
 abbrev pub wordOf : ℕ → ℕ
 wordOf s = 4 * s
 
 abbrev pub header : ℕ → ℕ → ℕ → ℕ → Header
-header root free n spare = record { root = root; free = free; nodes = n; spare = spare }
+header root free n level = record { root = root; free = free; nodes = n; level = level }
+
+-- the header with another L
+abbrev pub atLevel : Header → ℕ → Header
+atLevel h l = header (h .root) (h .free) (h .nodes) l
 
 abbrev pub slot : ℕ → ℕ → ℕ → ℕ → Slot
 slot key left right weight = record { key = key; left = left; right = right; weight = weight }
@@ -31,7 +35,11 @@ unfoldable pub headerOf : List ℕ → Header
 headerOf p = header (getD p 0 0) (getD p 1 0) (getD p 2 0) (getD p 3 0)
 
 unfoldable pub putHeader : List ℕ → Header → List ℕ
-putHeader p h = set (set (set (set p 0 (h .root)) 1 (h .free)) 2 (h .nodes)) 3 (h .spare)
+putHeader p h = set (set (set (set p 0 (h .root)) 1 (h .free)) 2 (h .nodes)) 3 (h .level)
+
+-- L alone
+unfoldable pub putLevel : List ℕ → ℕ → List ℕ
+putLevel p l = set p 3 l
 
 unfoldable pub slotAt : List ℕ → ℕ → Slot
 slotAt p s = slot (getD p (wordOf s) 0) (getD p (wordOf s + 1) 0) (getD p (wordOf s + 2) 0) (getD p (wordOf s + 3) 0)
@@ -89,15 +97,12 @@ shownSlot S s = elim (inTop s (S .top)) [
   | none ↦ elim (inChain s (S .free)) [ some c ↦ c | none ↦ slot 0 0 0 0 ]
 ]
 
--- The fourth word of the header (RULES 1.3): "one word that is 0". A named definition, because a later request puts L there.
-unfoldable pub spareOf : Top → ℕ
-spareOf t = 0
-
+-- RULES 1.3: root, first free slot, N; and 02 (v): "Keep L in the fourth header word".
 unfoldable pub shownHeader : State → Header
-shownHeader S = header (rootOf (S .top)) (headOf (S .free)) (nodes (S .top)) (spareOf (S .top))
+shownHeader S = header (rootOf (S .top)) (headOf (S .free)) (nodes (S .top)) (levelTop (S .top))
 
 abbrev pub headerWords : Header → List ℕ
-headerWords h = h .root ∷ h .free ∷ h .nodes ∷ h .spare ∷ []
+headerWords h = h .root ∷ h .free ∷ h .nodes ∷ h .level ∷ []
 
 abbrev pub slotWords : Slot → List ℕ
 slotWords c = c .key ∷ c .left ∷ c .right ∷ c .weight ∷ []

@@ -12,6 +12,8 @@ use Rattle.slots.proofs.get_header.Kinds as get-header-kinds
 use Rattle.slots.proofs.get_header.Reads as get-header-reads
 use Rattle.slots.proofs.put_header.Kinds as put-header-kinds
 use Rattle.slots.proofs.put_header.Reads as put-header-reads
+use Rattle.slots.proofs.put_level.Kinds as put-level-kinds
+use Rattle.slots.proofs.put_level.Reads as put-level-reads
 use Rattle.slots.proofs.slots_in.Kinds as slots-in-kinds
 use Rattle.slots.proofs.slots_in.Reads as slots-in-reads
 use Rattle.slots.proofs.last_slot.Kinds as last-slot-kinds
@@ -42,6 +44,9 @@ get-header-decides κs a x y e f p q = equal p q
 
 pub put-header-decides : DecidesWords 1 put-header-kinds.ps put-header-kinds.r (λ κs e. e .0 .now) put-header-reads.Post
 put-header-decides κs a x y e f p q = equal p q
+
+pub put-level-decides : DecidesWords 1 put-level-kinds.ps put-level-kinds.r (λ κs e. e .0 .now) put-level-reads.Post
+put-level-decides κs a x y e f p q = equal p q
 
 pub slots-in-decides : DecidesResult 1 slots-in-kinds.ps slots-in-kinds.r slots-in-reads.Post
 slots-in-decides κs a x y e f p q = equal p q

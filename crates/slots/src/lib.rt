@@ -6,7 +6,7 @@ use tree::MOST_SLOTS;
 ghost use mathlib.Core.Path.{_≡_};
 ghost use lib.ListN.{getD, set};
 ghost use Prim.Native.Nat.{pred};
-ghost use Rattle.format.specs.Words.{headerOf, putHeader, slotAt, putSlot, slotsIn, lastSlot, lengthGood, freeSlot};
+ghost use Rattle.format.specs.Words.{headerOf, putHeader, putLevel, slotAt, putSlot, slotsIn, lastSlot, lengthGood, freeSlot};
 ghost use Rattle.format.specs.Audit.{isSlot};
 
 // 01: "4 header words, then 4 words for each of C slots".
@@ -74,7 +74,7 @@ pub fn get_header(pool: &[u32]) -> Header
         root: word(pool, 0),
         free: word(pool, 1),
         nodes: word(pool, 2),
-        spare: word(pool, 3),
+        level: word(pool, 3),
     }
 }
 
@@ -94,7 +94,14 @@ pub fn put_header(pool: &mut [u32], h: Header)
     renew_word(pool, 0, h.root);
     renew_word(pool, 1, h.free);
     renew_word(pool, 2, h.nodes);
-    renew_word(pool, 3, h.spare);
+    renew_word(pool, 3, h.level);
+}
+
+// L alone, and only where it moved.
+pub fn put_level(pool: &mut [u32], level: u32)
+    ensures { λ _. ⌜ now (pool .exit) ≡ putLevel (now (pool .entry)) level ⌝ }
+{
+    renew_word(pool, 3, level);
 }
 
 // C, of a pool of any length.
