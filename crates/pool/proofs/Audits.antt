@@ -8,9 +8,9 @@ use mathlib.Core.List.{List}
 use Prim.Native.Nat.{ℕ, _-_, _≤_, _<_}
 use native.Mathlib.Omega.{arith}
 use Rattle.tree.proofs.Tests.{same-or-not, either-way}
-use Rattle.tree.specs.State.{Top, empty, full, nodes, GoodTop}
+use Rattle.tree.specs.State.{Top, empty, full, nodes, levelTop, GoodTop}
 use Rattle.format.specs.declared.Audited.the-variants.{Broken, Passed}
-use Rattle.format.specs.Words.{headerOf, slotsIn, lengthGood, rootOf, spareOf}
+use Rattle.format.specs.Words.{headerOf, slotsIn, lengthGood, rootOf}
 use Rattle.format.specs.Shows.{HoldsTop}
 use Rattle.format.specs.Audit.{rulesHold, audited}
 use Rattle.format.proofs.Frame.{holds-root, holds-one}
@@ -22,7 +22,7 @@ use Rattle.pool.specs.declared.Walk.{Walk}
 use Rattle.pool.specs.declared.Walk.the-variants.{Bad, Whole}
 use Rattle.pool.specs.Standing.{allowance}
 use Rattle.pool.specs.Visits.{chainTour, topTour, counted, walksTour, auditTour}
-use Rattle.pool.proofs.Tours.{audit-length, audit-spare, audit-nodes, audit-walks, walks-chain, walks-tree, counted-other, counted-all}
+use Rattle.pool.proofs.Tours.{audit-length, audit-nodes, audit-walks, walks-chain, walks-tree, counted-other, counted-level, counted-all}
 use Rattle.pool.proofs.Walks.{FineTop, TopSays, top-says}
 use Rattle.pool.proofs.Chains.{ChainSays, chain-says}
 use Rattle.pool.proofs.Standing.{good-fine}
@@ -40,10 +40,6 @@ module _ (p : List ℕ) where
       go false e = audited-broken p h e
 
   -- The faults.
-  not-spare : (headerOf p) .spare ≢ 0 → NotShown p
-  unfolding spareOf
-  not-spare h t fs f = h (f .spare-is)
-
   not-nodes : slotsIn p < (headerOf p) .nodes → NotShown p
   not-nodes h t fs f = omega (arith, f .nodes-is, f .all-slots)
 
@@ -76,24 +72,28 @@ module _ (p : List ℕ) where
     not-count : rest ≢ 0 → NotShown p
     not-count h t fs f = h (omega (arith, W .nodes-are, ap nodes (one-top (W .top) t _ _ (W .fine) (fine-top t f)), f .nodes-is))
 
+    not-level : l ≢ (headerOf p) .level → NotShown p
+    not-level h t fs f = h (W .level-is ∙ (ap levelTop (one-top (W .top) t _ _ (W .fine) (fine-top t f)) ∙ sym (f .level-is)))
+
     -- No fault.
-    found-all : lengthGood p ≡ true → (headerOf p) .spare ≡ 0 → (headerOf p) .nodes ≤ slotsIn p
-        → ChainSays p ((headerOf p) .free) (slotsIn p - (headerOf p) .nodes) true → rest ≡ 0
-        → Passed (headerOf p) l ≡ audited p
-    unfolding spareOf
-    found-all length-good spare few chain count =
+    found-all : lengthGood p ≡ true → (headerOf p) .nodes ≤ slotsIn p
+        → ChainSays p ((headerOf p) .free) (slotsIn p - (headerOf p) .nodes) true → rest ≡ 0 → l ≡ (headerOf p) .level
+        → Passed (headerOf p) ≡ audited p
+    found-all length-good few chain count level =
         let T = top-facts (W .top) _ _ (W .fine) in
         let facts : LocalFacts (headerOf p) p (W .top) (chain .slots) =
-        local-facts length-good (T .0) (omega (arith, W .nodes-are)) spare (T .1) (T .2) (chain .chain) (omega (arith, W .nodes-are, chain .slots-are)) in
-        cc (W .level-is, audited-passed p (facts-sound facts) (facts-shows facts))
+        local-facts length-good (T .0) (omega (arith, W .nodes-are)) (sym level ∙ W .level-is) (T .1) (T .2) (chain .chain) (omega (arith, W .nodes-are, chain .slots-are)) in
+        sym (audited-passed p (facts-sound facts) (facts-shows facts))
 
   -- The walks, where length and header are good; then the whole audit.
-  module _ (words : Words32 p) (good : lengthGood p ≡ true) (spare : (headerOf p) .spare ≡ 0) (few : (headerOf p) .nodes ≤ slotsIn p) where
+  module _ (words : Words32 p) (good : lengthGood p ≡ true) (few : (headerOf p) .nodes ≤ slotsIn p) where
     tree-tour : ChainSays p ((headerOf p) .free) (slotsIn p - (headerOf p) .nodes) true → (r : Walk)
         → TopSays p ((headerOf p) .root) (allowance p) ((headerOf p) .nodes) r → counted (headerOf p) r ≡ audited p
     tree-tour chain Bad says = sym (shown-broken good words (not-top says))
     tree-tour chain (Whole rest l) W = same-or-not rest 0
-        (λ e. rw (counted-all (headerOf p) rest l refl e) (found-all W good spare few chain e))
+        (λ e. same-or-not l ((headerOf p) .level)
+        (λ f. rw (counted-all (headerOf p) rest l refl e f) (found-all W good few chain e f))
+        (λ h. rw (counted-level (headerOf p) rest l h) (sym (shown-broken good words (not-level W h)))))
         (λ h. rw (counted-other (headerOf p) rest l h) (sym (shown-broken good words (not-count W h))))
 
     walks-tour : (b : Bool) → (chainTour (slotsIn p - (headerOf p) .nodes) p ((headerOf p) .free)) .answer ≡ b
@@ -106,8 +106,6 @@ module _ (p : List ℕ) where
     where
       go : (b : Bool) → lengthGood p ≡ b → (auditTour p) .answer ≡ audited p
       go false e = ap (λ x. x .answer) (audit-length p e) ∙ sym (audited-length p e)
-      go true e = same-or-not ((headerOf p) .spare) 0
-          (λ z. either-way ((headerOf p) .nodes) (slotsIn p)
-          (λ few. ap (λ x. x .answer) (audit-walks p e z few) ∙ walks-tour words e z few _ refl (chain-says (slotsIn p - (headerOf p) .nodes) p ((headerOf p) .free)))
-          (λ many. ap (λ x. x .answer) (audit-nodes p e many) ∙ sym (shown-broken e words (not-nodes many))))
-          (λ h. ap (λ x. x .answer) (audit-spare p e h) ∙ sym (shown-broken e words (not-spare h)))
+      go true e = either-way ((headerOf p) .nodes) (slotsIn p)
+          (λ few. ap (λ x. x .answer) (audit-walks p e few) ∙ walks-tour words e few _ refl (chain-says (slotsIn p - (headerOf p) .nodes) p ((headerOf p) .free)))
+          (λ many. ap (λ x. x .answer) (audit-nodes p e many) ∙ sym (shown-broken e words (not-nodes many)))

@@ -9,9 +9,9 @@ use native.Mathlib.Omega.{arith}
 use native.Mathlib.Decide.{ℕ-discrete}
 use lib.ListN.{length}
 use borrow.Author.Tests.{eq-eqb, ne-eqb}
-use Rattle.tree.specs.State.{upwards, prepared, nodes, Sound}
+use Rattle.tree.specs.State.{upwards, prepared, nodes, levelTop, Sound}
 use Rattle.tree.proofs.Updated.{prepared-sound}
-use Rattle.format.specs.Words.{header, headerOf, putHeader, slotAt, putSlot, slotsIn, lengthGood, freeSlot, headOf, inChain, inTop, rootOf, spareOf, shownSlot, shownHeader, wordsOf}
+use Rattle.format.specs.Words.{header, headerOf, putHeader, slotAt, putSlot, slotsIn, lengthGood, freeSlot, headOf, inChain, inTop, rootOf, shownSlot, shownHeader, wordsOf}
 use Rattle.format.proofs.Slots.{header-same, header-length, slot-length, slot-same, slot-other, header-after-slot, same-words, words-length, words-header, words-slot}
 use Rattle.format.specs.Shows.{PoolShows}
 use Rattle.format.specs.Audit.{auditCode}
@@ -37,7 +37,7 @@ up-slot s a (suc n) m h e = go (ℕ-discrete s a) (up-slot s (suc a) n m)
 
 -- so it is with the prepared State
 empty-header : (n : ℕ) → 1 ≤ n → shownHeader (prepared n) ≡ header 0 1 0 0
-unfolding shownHeader prepared rootOf spareOf nodes
+unfolding shownHeader prepared rootOf nodes levelTop
 empty-header n h = ap (λ (x : ℕ). header 0 x 0 0) (up-head 1 n h)
 
 empty-slot : (n s m : ℕ) → 1 ≤ s → s + m ≡ n → shownSlot (prepared n) s ≡ freeSlot (headOf (upwards (suc s) m))

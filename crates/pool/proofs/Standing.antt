@@ -17,7 +17,7 @@ use Rattle.format.specs.Words.{slotAt, slotsIn, rootOf}
 use Rattle.format.specs.Shows.{Holds, holds-leaf, holds-node, HoldsTop}
 use Rattle.format.specs.Audit.{stateOf}
 use Rattle.format.proofs.Frame.{holds-root}
-use Rattle.format.proofs.Shown.{good-length, shows-root, shows-nodes, shows-length-good}
+use Rattle.format.proofs.Shown.{good-length, shows-root, shows-nodes, shows-level, shows-length-good}
 use Rattle.format.proofs.AuditCases.{Kept}
 use Rattle.pool.specs.Walks.{Fine}
 use Rattle.pool.specs.Standing.{allowance, Standing}
@@ -71,14 +71,14 @@ good-fine {t = t} e holds good within few = record {
 }
 
 -- The tree that the words show stands at the root of the header that the audit answers, with its N and L.
-pub record Rooted (p : List ℕ) (h : Header) (l : ℕ) : Type 0 where
+pub record Rooted (p : List ℕ) (h : Header) : Type 0 where
   pub standing : Standing p (h .root) (h .nodes) (allowance p)
   pub weight-is : standing .weight ≡ 1
   pub top-is : (stateOf p) .top ≡ full (standing .tree)
   pub nodes-are : h .nodes ≡ size (standing .tree)
-  pub level-is : l ≡ level (standing .tree)
+  pub level-is : h .level ≡ level (standing .tree)
 
-module _ {p : List ℕ} {h : Header} {l : ℕ} (K : Kept p h l) where
+module _ {p : List ℕ} {h : Header} (K : Kept p h) where
   pub no-root : h .root ≡ 0 → (stateOf p) .top ≡ empty
   unfolding rootOf HoldsTop
   no-root z = go ((stateOf p) .top) (shows-root (K .shows)) (K .shows .tree-held)
@@ -87,11 +87,11 @@ module _ {p : List ℕ} {h : Header} {l : ℕ} (K : Kept p h l) where
       go empty e g = refl
       go (full t) e g = absurd (omega (arith, holds-root g .from-one))
 
-  pub root-standing : h .root ≢ 0 → Rooted p h l
+  pub root-standing : h .root ≢ 0 → Rooted p h
   unfolding rootOf HoldsTop GoodTop nodes levelTop
   root-standing z = go ((stateOf p) .top) refl
     where
-      go : (t : Top) → (stateOf p) .top ≡ t → Rooted p h l
+      go : (t : Top) → (stateOf p) .top ≡ t → Rooted p h
       go empty e = absurd (z (shows-root (K .shows) ∙ ap rootOf e))
       go (full t) e =
           let count = shows-nodes (K .shows) ∙ ap nodes e in
@@ -110,5 +110,5 @@ module _ {p : List ℕ} {h : Header} {l : ℕ} (K : Kept p h l) where
             weight-is = refl;
             top-is = e;
             nodes-are = count;
-            level-is = K .level-is ∙ ap levelTop e;
+            level-is = shows-level (K .shows) ∙ ap levelTop e;
           }

@@ -195,17 +195,13 @@ module _ (p : List ℕ) where
   audit-length e = rw (e, auditTour)
 
   module _ (good : lengthGood p ≡ true) where
-    pub audit-spare : (headerOf p) .spare ≢ 0 → auditTour p ≡ tour Broken 0
-    unfolding auditTour
-    audit-spare h = rw (good, ne-eqb _ 0 h, auditTour)
-
     pub audit-nodes : slotsIn p < (headerOf p) .nodes → auditTour p ≡ tour Broken 0
     unfolding auditTour
-    audit-nodes h = rw (good, lt-leb _ (slotsIn p) h, and-false (eqb ((headerOf p) .spare) 0), auditTour)
+    audit-nodes h = rw (good, lt-leb _ (slotsIn p) h, auditTour)
 
-    pub audit-walks : (headerOf p) .spare ≡ 0 → (headerOf p) .nodes ≤ slotsIn p → auditTour p ≡ walksTour (headerOf p) p
+    pub audit-walks : (headerOf p) .nodes ≤ slotsIn p → auditTour p ≡ walksTour (headerOf p) p
     unfolding auditTour
-    audit-walks z few = rw (good, eq-eqb _ 0 z, le-leb _ (slotsIn p) few, auditTour)
+    audit-walks few = rw (good, le-leb _ (slotsIn p) few, auditTour)
 
 module _ (h : Header) (p : List ℕ) where
   pub walks-chain : (chainTour (slotsIn p - h .nodes) p (h .free)) .answer ≡ false → (walksTour h p) .answer ≡ Broken
@@ -217,10 +213,13 @@ module _ (h : Header) (p : List ℕ) where
   unfolding walksTour
   walks-tree e = rw (e, walksTour)
 
--- N against what is left over.
+-- N against what is left over, and the header's L against the tree's.
 module _ (h : Header) (rest l : ℕ) where
   pub counted-other : rest ≢ 0 → counted h (Whole rest l) ≡ Broken
   counted-other z = rw (ne-eqb rest 0 z, counted)
 
-  pub counted-all : {k : Header} → k ≡ h → rest ≡ 0 → counted h (Whole rest l) ≡ Passed k l
-  counted-all read e = rw (eq-eqb rest 0 e, counted, read)
+  pub counted-level : l ≢ h .level → counted h (Whole rest l) ≡ Broken
+  counted-level z = rw (ne-eqb l (h .level) z, and-false (eqb rest 0), counted)
+
+  pub counted-all : {k : Header} → k ≡ h → rest ≡ 0 → l ≡ h .level → counted h (Whole rest l) ≡ Passed k
+  counted-all read e f = rw (eq-eqb rest 0 e, eq-eqb l (h .level) f, counted, read)

@@ -22,7 +22,7 @@ use Rattle.pool.specs.declared.Walk.{Walk}
 use Rattle.pool.specs.declared.Walk.the-variants.{Bad, Whole}
 use Rattle.pool.specs.Standing.{allowance}
 use Rattle.pool.specs.Visits.{Tour, leafTest, leafWalk, joinTest, joinWalk, innerTour, treeTour, offRoot, topTour, chainTour, counted, walksTour, auditTour, auditVisits}
-use Rattle.pool.proofs.Tours.{top-none, top-weight, top-tree, audit-length, audit-spare, audit-nodes, audit-walks, counted-other, counted-all}
+use Rattle.pool.proofs.Tours.{top-none, top-weight, top-tree, audit-length, audit-nodes, audit-walks, counted-other, counted-level, counted-all}
 use Rattle.pool.proofs.Audits.{audit-tour}
 
 -- What v visits have found, of `most` allowed, at a slot of weight w.
@@ -152,13 +152,15 @@ chain-exact n p s e = rw e at (chain-turned n p s)
 abbrev Visited : ℕ → ℕ → Audited → Type 0
 Visited c v Length = v ≡ 0
 Visited c v Broken = v ≤ c + 1
-Visited c v (Passed h l) = v ≡ c
+Visited c v (Passed h) = v ≡ c
 
 -- The chain has the slots that are not N's, and the tree has N.
 counted-visits : (h : Header) (c v w : ℕ) → h .nodes ≤ c → w ≡ c - h .nodes → (r : Walk) → Spent 0 (h .nodes) v r → Visited c (w + v) (counted h r)
 counted-visits h c v w few e Bad s = omega arith
 counted-visits h c v w few e (Whole rest l) s = same-or-not rest 0
-    (λ z. rw (counted-all h rest l refl z) (omega (arith, s .0)))
+    (λ z. same-or-not l (h .level)
+    (λ y. rw (counted-all h rest l refl z y) (omega (arith, s .0)))
+    (λ n. rw (counted-level h rest l n) (omega (arith, s .0))))
     (λ n. rw (counted-other h rest l n) (omega (arith, s .0)))
 
 walks-visits : (h : Header) (p : List ℕ) → h .nodes ≤ slotsIn p → let t = walksTour h p in Visited (slotsIn p) (t .visits) (t .answer)
@@ -182,16 +184,14 @@ module _ (p : List ℕ) where
     where
       go : (b : Bool) → lengthGood p ≡ b → Visited (slotsIn p) (auditVisits p) ((auditTour p) .answer)
       go false e = rw (audit-length p e, auditVisits)
-      go true e = same-or-not ((headerOf p) .spare) 0
-          (λ z. either-way ((headerOf p) .nodes) (slotsIn p)
-          (λ few. rw (audit-walks p e z few, auditVisits) (walks-visits (headerOf p) p few))
-          (λ many. rw (audit-nodes p e many, auditVisits) (omega arith)))
-          (λ h. rw (audit-spare p e h, auditVisits) (omega arith))
+      go true e = either-way ((headerOf p) .nodes) (slotsIn p)
+          (λ few. rw (audit-walks p e few, auditVisits) (walks-visits (headerOf p) p few))
+          (λ many. rw (audit-nodes p e many, auditVisits) (omega arith))
 
   audits-most : (c v : ℕ) (r : Audited) → Visited c v r → v ≤ c + 1
   audits-most c v Length h = omega arith
   audits-most c v Broken h = h
-  audits-most c v (Passed k l) h = omega arith
+  audits-most c v (Passed k) h = omega arith
 
   -- On any words at most C + 1 visits.
   pub audit-visits : auditVisits p ≤ slotsIn p + 1
@@ -202,7 +202,7 @@ module _ (p : List ℕ) where
   length-visits e = rw (audit-length p e, auditVisits)
 
   -- C where the pool passes: each slot once.
-  pub passed-visits : Words32 p → {h : Header} {l : ℕ} → audited p ≡ Passed h l → auditVisits p ≡ slotsIn p
+  pub passed-visits : Words32 p → {h : Header} → audited p ≡ Passed h → auditVisits p ≡ slotsIn p
   passed-visits words e = rw (audit-tour p words ∙ e) at tour-visits
 
 -- C = 1, and a root that is its own child: C + 1 visits are made.

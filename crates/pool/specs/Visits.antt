@@ -83,10 +83,10 @@ chainTour (suc n) p s = elim (isSlot p s && freeWords p s) [
   | false ↦ tour false 1
 ]
 
--- The audit: the length, the header's fourth word, N, the free chain, the tree, and that no node of N is left over.
+-- The audit: the length, N, the free chain, the tree, that no node of N is left over, and the header's L.
 abbrev pub counted : Header → Walk → Audited
 counted h Bad = Broken
-counted h (Whole rest l) = elim (eqb rest 0) [ true ↦ Passed h l | false ↦ Broken ]
+counted h (Whole rest l) = elim (eqb rest 0 && eqb l (h .level)) [ true ↦ Passed h | false ↦ Broken ]
 
 unfoldable pub walksTour : Header → List ℕ → Tour Audited
 walksTour h p = let chain = chainTour (slotsIn p - h .nodes) p (h .free) in elim (chain .answer) [
@@ -97,7 +97,7 @@ walksTour h p = let chain = chainTour (slotsIn p - h .nodes) p (h .free) in elim
 unfoldable pub auditTour : List ℕ → Tour Audited
 auditTour p = elim (lengthGood p) [
   | false ↦ tour Length 0
-  | true ↦ elim (eqb ((headerOf p) .spare) 0 && leb ((headerOf p) .nodes) (slotsIn p)) [
+  | true ↦ elim (leb ((headerOf p) .nodes) (slotsIn p)) [
     | true ↦ walksTour (headerOf p) p
     | false ↦ tour Broken 0
   ]

@@ -42,7 +42,7 @@ pub fn prepare(pool: &mut [u32]) -> u32
             root: 0,
             free: 1,
             nodes: 0,
-            spare: 0,
+            level: 0,
         },
     );
     let mut s = 1;
@@ -202,9 +202,6 @@ pub fn examine(pool: &[u32]) -> Audited
     }
     let slots = slots_in(pool) as u32;
     let h = get_header(pool);
-    if h.spare != 0 {
-        return Audited::Broken;
-    }
     if slots < h.nodes {
         return Audited::Broken;
     }
@@ -217,7 +214,10 @@ pub fn examine(pool: &[u32]) -> Audited
     if rest != 0 {
         return Audited::Broken;
     }
-    Audited::Passed(h, l)
+    if l != h.level {
+        return Audited::Broken;
+    }
+    Audited::Passed(h)
 }
 
 // 01: "audit and report give 0, 1 or 2".

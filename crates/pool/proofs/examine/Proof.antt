@@ -13,7 +13,7 @@ use Rattle.format.proofs.Shown.{good-length}
 use Rattle.format.proofs.AuditCases.{audited-length}
 use Rattle.pool.specs.Standing.{allowance}
 use Rattle.pool.specs.Visits.{topTour, counted, auditTour}
-use Rattle.pool.proofs.Tours.{audit-spare, audit-nodes, audit-walks, walks-chain, walks-tree, counted-other, counted-all}
+use Rattle.pool.proofs.Tours.{audit-nodes, audit-walks, walks-chain, walks-tree, counted-other, counted-level, counted-all}
 use Rattle.pool.proofs.Audits.{audit-tour}
 use Rattle.pool.proofs.examine.Statement.{statement}
 use Rattle.pool.proofs.examine.Tie as tie
@@ -25,19 +25,16 @@ good c = sym (c .before .length-good .ensures) ∙ not-false _ (c .if1 .left)
 told : (c : tie.Else1) {r : Audited} → (auditTour (c .before .before .before .args .pool .now)) .answer ≡ r → r ≡ audited (c .before .before .before .args .pool .now)
 told c e = sym e ∙ audit-tour _ (λ i. omega (arith, c .before .before .shared-slice-known .given i))
 
--- Beyond the third the header is good; beyond the fourth the chain is.
-spare : (c : tie.Else3) → (headerOf (c .before .before .before .before .before .before .before .before .before .args .pool .now)) .spare ≡ 0
-spare c = omega (arith, rw (c .before .before .before .before .get-header .ensures) at (c .before .before .if2 .left))
+-- Beyond the second N is good; beyond the third the chain is.
+few : (c : tie.Else2) → let p = c .before .before .before .before .before .before .before .args .pool .now in (headerOf p) .nodes ≤ slotsIn p
+few c = rw (c .before .before .get-header .ensures, c .before .before .before .slots-in .ensures) at (c .if2 .left)
 
-few : (c : tie.Else3) → (headerOf (c .before .before .before .before .before .before .before .before .before .args .pool .now)) .nodes ≤ slotsIn (c .before .before .before .before .before .before .before .before .before .args .pool .now)
-few c = rw (c .before .before .before .before .get-header .ensures, c .before .before .before .before .before .slots-in .ensures) at (c .if3 .left)
-
-whole : (c : tie.Else4)
-    → let p = c .before .before .before .before .before .before .before .before .before .before .before .before .args .pool .now in (auditTour p) .answer ≡ counted (headerOf p) ((topTour p ((headerOf p) .root) (allowance p) ((headerOf p) .nodes)) .answer)
+whole : (c : tie.Else3)
+    → let p = c .before .before .before .before .before .before .before .before .before .before .args .pool .now in (auditTour p) .answer ≡ counted (headerOf p) ((topTour p ((headerOf p) .root) (allowance p) ((headerOf p) .nodes)) .answer)
 whole c =
     let k = (c .before .before .before) in
-    let chain = rw (not-false (c .before .walk-chain .result) (c .if4 .left), c .before .before .before .before .before .before .before .get-header .ensures, c .before .before .before .before .before .before .before .before .slots-in .ensures) at (c .before .walk-chain .ensures) in
-    ap (λ x. x .answer) (audit-walks _ (good (k .before .before .before .before .before .before)) (spare k) (few k)) ∙ walks-tree _ _ (sym chain)
+    let chain = rw (not-false (c .before .walk-chain .result) (c .if3 .left), c .before .before .before .before .before .get-header .ensures, c .before .before .before .before .before .before .slots-in .ensures) at (c .before .walk-chain .ensures) in
+    ap (λ x. x .answer) (audit-walks _ (good (k .before .before .before .before)) (few k)) ∙ walks-tree _ _ (sym chain)
 
 length-good-requires : tie.Need-length-good-requires
 length-good-requires c κs = search needs
@@ -57,23 +54,17 @@ get-header-requires c κs = search needs
 returns-2 : tie.Need-returns-2
 returns-2 c =
     let k = (c .before .before .before .before) in
-    let other = rw (c .before .before .get-header .ensures) at (c .if2 .taken) in
-    told k (ap (λ x. x .answer) (audit-spare _ (good k) (omega (arith, other))))
-
-returns-3 : tie.Need-returns-3
-returns-3 c =
-    let k = (c .before .before .before .before .before .before) in
-    let many = rw (c .before .before .before .before .get-header .ensures, c .before .before .before .before .before .slots-in .ensures) at (c .if3 .taken) in
+    let many = rw (c .before .before .get-header .ensures, c .before .before .before .slots-in .ensures) at (c .if2 .taken) in
     told k (ap (λ x. x .answer) (audit-nodes _ (good k) many))
 
 walk-chain-requires : tie.Need-walk-chain-requires
 walk-chain-requires c κs = search needs
 
-returns-4 : tie.Need-returns-4
-returns-4 c =
+returns-3 : tie.Need-returns-3
+returns-3 c =
     let k = (c .before .before .before) in
-    let chain = rw (not-true (c .before .walk-chain .result) (c .if4 .taken), c .before .before .before .before .before .before .before .get-header .ensures, c .before .before .before .before .before .before .before .before .slots-in .ensures) at (c .before .walk-chain .ensures) in
-    told (k .before .before .before .before .before .before) (ap (λ x. x .answer) (audit-walks _ (good (k .before .before .before .before .before .before)) (spare k) (few k)) ∙ walks-chain _ _ (sym chain))
+    let chain = rw (not-true (c .before .walk-chain .result) (c .if3 .taken), c .before .before .before .before .before .get-header .ensures, c .before .before .before .before .before .before .slots-in .ensures) at (c .before .walk-chain .ensures) in
+    told (k .before .before .before .before) (ap (λ x. x .answer) (audit-walks _ (good (k .before .before .before .before)) (few k)) ∙ walks-chain _ _ (sym chain))
 
 allowance-requires : tie.Need-allowance-requires
 allowance-requires c κs = search needs
@@ -87,23 +78,34 @@ enum-known-rest c = search needs
 enum-told : tie.Need-enum-told
 enum-told c = search needs
 
+returns-4 : tie.Need-returns-4
+returns-4 c =
+    let k = (c .before .before .before .before) in
+    let tree = rw (c .enum-told .given .1, c .before .before .before .before .before .before .before .before .before .get-header .ensures, c .before .before .before .allowance .ensures) at (c .before .before .walk-top .ensures) in
+    told (k .before .before .before .before .before .before .before) (whole k ∙ ap (counted _) (sym tree))
+
 returns-5 : tie.Need-returns-5
 returns-5 c =
-    let k = (c .before .before .before .before) in
-    let tree = rw (c .enum-told .given .1, c .before .before .before .before .before .before .before .before .before .before .before .get-header .ensures, c .before .before .before .allowance .ensures) at (c .before .before .walk-top .ensures) in
-    told (k .before .before .before .before .before .before .before .before .before) (whole k ∙ ap (counted _) (sym tree))
+    let k = (c .before .before .before .before .before .before) in
+    let w = c .before .before .rest .given .0 in
+    let tree = rw (c .before .before .rest .given .1, c .before .before .before .before .before .before .before .before .before .before .before .get-header .ensures, c .before .before .before .before .before .allowance .ensures) at (c .before .before .before .before .walk-top .ensures) in
+    told (k .before .before .before .before .before .before .before) (whole k ∙ (ap (counted _) (sym tree) ∙ counted-other (headerOf (k .before .before .before .before .before .before .before .before .before .before .args .pool .now)) (w .0) (w .1 .0) (c .if4 .taken)))
 
 returns-6 : tie.Need-returns-6
 returns-6 c =
-    let k = (c .before .before .before .before .before .before) in
-    let tree = rw (c .before .before .rest .given .1, c .before .before .before .before .before .before .before .before .before .before .before .before .before .get-header .ensures, c .before .before .before .before .before .allowance .ensures) at (c .before .before .before .before .walk-top .ensures) in
-    told (k .before .before .before .before .before .before .before .before .before) (whole k ∙ (ap (counted _) (sym tree) ∙ counted-other _ _ _ (c .if5 .taken)))
+    let k = (c .before .before .before .before .before .before .before .before) in
+    let w = c .before .before .before .before .rest .given .0 in
+    let read = c .before .before .before .before .before .before .before .before .before .before .before .before .before .get-header .ensures in
+    let tree = rw (c .before .before .before .before .rest .given .1, read, c .before .before .before .before .before .before .before .allowance .ensures) at (c .before .before .before .before .before .before .walk-top .ensures) in
+    told (k .before .before .before .before .before .before .before) (whole k ∙ (ap (counted _) (sym tree) ∙ counted-level (headerOf (k .before .before .before .before .before .before .before .before .before .before .args .pool .now)) (w .0) (w .1 .0) (rw read at (c .if5 .taken))))
 
 returns-7 : tie.Need-returns-7
 returns-7 c =
-    let k = (c .before .before .before .before .before .before) in
-    let tree = rw (c .before .before .rest .given .1, c .before .before .before .before .before .before .before .before .before .before .before .before .before .get-header .ensures, c .before .before .before .before .before .allowance .ensures) at (c .before .before .before .before .walk-top .ensures) in
-    told (k .before .before .before .before .before .before .before .before .before) (whole k ∙ (ap (counted _) (sym tree) ∙ counted-all _ _ _ (c .before .before .before .before .before .before .before .before .before .before .before .before .before .get-header .ensures) (c .if5 .left)))
+    let k = (c .before .before .before .before .before .before .before .before) in
+    let w = c .before .before .before .before .rest .given .0 in
+    let read = c .before .before .before .before .before .before .before .before .before .before .before .before .before .get-header .ensures in
+    let tree = rw (c .before .before .before .before .rest .given .1, read, c .before .before .before .before .before .before .before .allowance .ensures) at (c .before .before .before .before .before .before .walk-top .ensures) in
+    told (k .before .before .before .before .before .before .before) (whole k ∙ (ap (counted _) (sym tree) ∙ counted-all (headerOf (k .before .before .before .before .before .before .before .before .before .before .args .pool .now)) (w .0) (w .1 .0) read (c .before .before .if4 .left) (rw read at (c .if5 .left))))
 
 pub examine-spec : {M : Type 1} → statement M
 examine-spec =
@@ -115,13 +117,13 @@ examine-spec =
     cast-slots
     get-header-requires
     returns-2
-    returns-3
     walk-chain-requires
-    returns-4
+    returns-3
     allowance-requires
     walk-top-requires
     enum-known-rest
     enum-told
+    returns-4
     returns-5
     returns-6
     returns-7)
