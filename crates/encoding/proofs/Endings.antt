@@ -51,7 +51,7 @@ module _ (p bytes out : List ℕ) where
       go : {a : Audited} → Case p a → Ending p bytes out (elim a [
         | Length ↦ refused PoolLength p out
         | Broken ↦ batchRead (readBatch bytes) p out (λ cs. refused RulesBroken p out)
-        | Passed h l ↦ batchRead (readBatch bytes) p out (λ cs. called cs p out)
+        | Passed h ↦ batchRead (readBatch bytes) p out (λ cs. called cs p out)
       ])
       go (wrong-length h) = length-refused h
       go (rules-broken h f) = read-ending h _ (λ cs e r. rules-refused h e r f)

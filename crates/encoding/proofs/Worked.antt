@@ -15,8 +15,8 @@ use Rattle.encoding.specs.declared.Command.{Command}
 use Rattle.encoding.specs.declared.Reading.{Reading}
 use Rattle.encoding.specs.declared.Reading.the-variants.{Next, Fault}
 use Rattle.format.proofs.Rows.{pool, Row, row, allGiven, allSaid}
-use Rattle.format.specs.Words.{header, slot, freeSlot, headerWords, headerOf, slotAt, slotsIn, lengthGood, inTree, inChain, inTop, rootOf, shownSlot, spareOf, shownHeader, slotWords, slotsFrom, wordsOf}
-use Rattle.format.specs.Audit.{Found, isSlot, follow, chain, chainEnds, treeFound, chainFound, slotsOf, bare, all, allFrom, same, rule-once, freeWords, rule-free, children, rule-children, leafKeys, routed, rule-order, wellWeighed, rootWeighed, rule-weights, sumsOf, rootSums, rule-sums, rule-spare, rules, allTrue, rulesUnder, foundWeight, treeOf, topOf, stateUnder, stateOf, audited}
+use Rattle.format.specs.Words.{header, slot, freeSlot, headerWords, headerOf, slotAt, slotsIn, lengthGood, inTree, inChain, inTop, rootOf, shownSlot, shownHeader, slotWords, slotsFrom, wordsOf}
+use Rattle.format.specs.Audit.{Found, isSlot, follow, chain, chainEnds, treeFound, chainFound, slotsOf, bare, all, allFrom, same, rule-once, freeWords, rule-free, children, rule-children, leafKeys, routed, rule-order, wellWeighed, rootWeighed, rule-weights, sumsOf, rootSums, rule-sums, rule-level, rules, allTrue, rulesUnder, foundWeight, treeOf, topOf, stateUnder, stateOf, audited}
 use Rattle.encoding.specs.Numbers.{lastGroup, below, groups, number}
 use Rattle.encoding.specs.Batch.{lastArgument, onlyArgument, twoArguments, argumentsAt, meantAt, operationAt, commandAt, Batch, commands, badAt, after, readFrom, readBatch, operation, perform, answersOf, runAll, answerWords, filled, Call, called, refused, batchRead, batch}
 use Rattle.tree.specs.declared.Kind.{Kind}
@@ -28,40 +28,60 @@ use Rattle.tree.specs.Updates.{reach, reachedSlot, reachedKey, insertAt, newSlo
 use Rattle.tree.specs.State.{State, state, Top, empty, full, nodes, upwards, prepared, Outcome, search, insertFirst, insertMore, insert, deleted, delete, leafAt, noInner, stepKind, stepNamed, step, report, figures, levelTop}
 use Rattle.tree.specs.Settle.{allowed, lowestKind, lowestStep, nextTree, treesAfter, lastOf, settled, settle}
 
--- P1: the pool after the four inserts
+-- P1: the pool after the four inserts. The fourth header word is L, in this pool and in those below: 02 (v).
 abbrev w1 : List ℕ
-w1 = pool (header 1 8 7 0) (slot 10 2 3 1 ∷ slot 10 0 0 1 ∷ slot 20 4 5 0 ∷ slot 20 0 0 1 ∷ slot 30 6 7 0 ∷ slot 30 0 0 1 ∷ slot 40 0 0 1 ∷ freeSlot 9 ∷ freeSlot 0 ∷ [])
+w1 = pool (header 1 8 7 1) (slot 10 2 3 1 ∷ slot 10 0 0 1 ∷ slot 20 4 5 0 ∷ slot 20 0 0 1 ∷ slot 30 6 7 0 ∷ slot 30 0 0 1 ∷ slot 40 0 0 1 ∷ freeSlot 9 ∷ freeSlot 0 ∷ [])
 
 -- P2
 abbrev w2 : List ℕ
-w2 = pool (header 1 8 7 0) (slot 20 3 5 1 ∷ slot 10 0 0 1 ∷ slot 10 2 4 0 ∷ slot 20 0 0 1 ∷ slot 30 6 7 0 ∷ slot 30 0 0 1 ∷ slot 40 0 0 1 ∷ freeSlot 9 ∷ freeSlot 0 ∷ [])
+w2 = pool (header 1 8 7 1) (slot 20 3 5 1 ∷ slot 10 0 0 1 ∷ slot 10 2 4 0 ∷ slot 20 0 0 1 ∷ slot 30 6 7 0 ∷ slot 30 0 0 1 ∷ slot 40 0 0 1 ∷ freeSlot 9 ∷ freeSlot 0 ∷ [])
 
 -- P3: after the insert, and after kind 1
 abbrev w3 : List ℕ
-w3 = pool (header 1 0 9 0) (slot 20 3 5 1 ∷ slot 10 0 0 1 ∷ slot 10 2 4 0 ∷ slot 20 0 0 1 ∷ slot 30 6 7 0 ∷ slot 30 0 0 1 ∷ slot 40 8 9 0 ∷ slot 40 0 0 1 ∷ slot 50 0 0 1 ∷ [])
+w3 = pool (header 1 0 9 1) (slot 20 3 5 1 ∷ slot 10 0 0 1 ∷ slot 10 2 4 0 ∷ slot 20 0 0 1 ∷ slot 30 6 7 0 ∷ slot 30 0 0 1 ∷ slot 40 8 9 0 ∷ slot 40 0 0 1 ∷ slot 50 0 0 1 ∷ [])
 
 abbrev w3b : List ℕ
-w3b = pool (header 1 0 9 0) (slot 20 3 5 1 ∷ slot 10 0 0 1 ∷ slot 10 2 4 1 ∷ slot 20 0 0 1 ∷ slot 30 6 7 1 ∷ slot 30 0 0 1 ∷ slot 40 8 9 0 ∷ slot 40 0 0 1 ∷ slot 50 0 0 1 ∷ [])
+w3b = pool (header 1 0 9 2) (slot 20 3 5 1 ∷ slot 10 0 0 1 ∷ slot 10 2 4 1 ∷ slot 20 0 0 1 ∷ slot 30 6 7 1 ∷ slot 30 0 0 1 ∷ slot 40 8 9 0 ∷ slot 40 0 0 1 ∷ slot 50 0 0 1 ∷ [])
 
 -- P4
 abbrev w4 : List ℕ
-w4 = pool (header 1 4 7 0) (slot 20 3 5 1 ∷ freeSlot 0 ∷ slot 20 0 0 2 ∷ freeSlot 2 ∷ slot 30 6 7 1 ∷ slot 30 0 0 1 ∷ slot 40 8 9 0 ∷ slot 40 0 0 1 ∷ slot 50 0 0 1 ∷ [])
+w4 = pool (header 1 4 7 2) (slot 20 3 5 1 ∷ freeSlot 0 ∷ slot 20 0 0 2 ∷ freeSlot 2 ∷ slot 30 6 7 1 ∷ slot 30 0 0 1 ∷ slot 40 8 9 0 ∷ slot 40 0 0 1 ∷ slot 50 0 0 1 ∷ [])
 
 -- P5: after settle 1, and after settle 9
 abbrev w5 : List ℕ
-w5 = pool (header 1 4 7 0) (slot 20 3 5 1 ∷ freeSlot 0 ∷ slot 20 0 0 1 ∷ freeSlot 2 ∷ slot 30 6 7 0 ∷ slot 30 0 0 1 ∷ slot 40 8 9 0 ∷ slot 40 0 0 1 ∷ slot 50 0 0 1 ∷ [])
+w5 = pool (header 1 4 7 1) (slot 20 3 5 1 ∷ freeSlot 0 ∷ slot 20 0 0 1 ∷ freeSlot 2 ∷ slot 30 6 7 0 ∷ slot 30 0 0 1 ∷ slot 40 8 9 0 ∷ slot 40 0 0 1 ∷ slot 50 0 0 1 ∷ [])
 
 abbrev w5b : List ℕ
-w5b = pool (header 1 4 7 0) (slot 30 5 7 1 ∷ freeSlot 0 ∷ slot 20 0 0 1 ∷ freeSlot 2 ∷ slot 20 3 6 0 ∷ slot 30 0 0 1 ∷ slot 40 8 9 0 ∷ slot 40 0 0 1 ∷ slot 50 0 0 1 ∷ [])
+w5b = pool (header 1 4 7 1) (slot 30 5 7 1 ∷ freeSlot 0 ∷ slot 20 0 0 1 ∷ freeSlot 2 ∷ slot 20 3 6 0 ∷ slot 30 0 0 1 ∷ slot 40 8 9 0 ∷ slot 40 0 0 1 ∷ slot 50 0 0 1 ∷ [])
 
 -- P8: "nine nodes, root with red c and d, c with red e, every leaf 255". Taken with c on the left of the root and e on the left
 -- of c: root 1, c 2, e 3, its leaves 4 and 5, c's other leaf 6, d 7, its leaves 8 and 9. w is the leaves' weight.
 abbrev w8 : ℕ → List ℕ
-w8 w = pool (header 1 0 9 0) (slot 30 2 7 1 ∷ slot 20 3 6 0 ∷ slot 10 4 5 0 ∷ slot 10 0 0 w ∷ slot 20 0 0 w ∷ slot 30 0 0 w ∷ slot 40 8 9 0 ∷ slot 40 0 0 w ∷ slot 50 0 0 w ∷ [])
+w8 w = pool (header 1 0 9 w) (slot 30 2 7 1 ∷ slot 20 3 6 0 ∷ slot 10 4 5 0 ∷ slot 10 0 0 w ∷ slot 20 0 0 w ∷ slot 30 0 0 w ∷ slot 40 8 9 0 ∷ slot 40 0 0 w ∷ slot 50 0 0 w ∷ [])
 
 -- router 20 over the keys 10 and 30
 abbrev router20 : List ℕ
-router20 = pool (header 1 4 3 0) (slot 20 2 3 1 ∷ slot 10 0 0 1 ∷ slot 30 0 0 1 ∷ freeSlot 5 ∷ freeSlot 6 ∷ freeSlot 7 ∷ freeSlot 8 ∷ freeSlot 9 ∷ freeSlot 0 ∷ [])
+router20 = pool (header 1 4 3 1) (slot 20 2 3 1 ∷ slot 10 0 0 1 ∷ slot 30 0 0 1 ∷ freeSlot 5 ∷ freeSlot 6 ∷ freeSlot 7 ∷ freeSlot 8 ∷ freeSlot 9 ∷ freeSlot 0 ∷ [])
+
+-- 02 (v): two keys in five slots, and after a delete one; a leaf of weight 2 beside a black node, and after its delete that node alone; a leaf
+-- of weight 2 beside a red node, and after kind 7 at the root
+abbrev w9 : List ℕ
+w9 = pool (header 1 4 3 1) (slot 10 2 3 1 ∷ slot 10 0 0 1 ∷ slot 20 0 0 1 ∷ freeSlot 5 ∷ freeSlot 0 ∷ [])
+
+abbrev w9b : List ℕ
+w9b = pool (header 1 3 1 0) (slot 20 0 0 1 ∷ freeSlot 4 ∷ freeSlot 2 ∷ freeSlot 5 ∷ freeSlot 0 ∷ [])
+
+abbrev w10 : List ℕ
+w10 = pool (header 1 0 5 2) (slot 10 2 3 1 ∷ slot 10 0 0 2 ∷ slot 20 4 5 1 ∷ slot 20 0 0 1 ∷ slot 30 0 0 1 ∷ [])
+
+abbrev w10b : List ℕ
+w10b = pool (header 1 3 3 1) (slot 20 4 5 1 ∷ freeSlot 0 ∷ freeSlot 2 ∷ slot 20 0 0 1 ∷ slot 30 0 0 1 ∷ [])
+
+abbrev w11 : List ℕ
+w11 = pool (header 1 0 5 2) (slot 10 2 3 1 ∷ slot 10 0 0 2 ∷ slot 20 4 5 0 ∷ slot 20 0 0 2 ∷ slot 30 0 0 2 ∷ [])
+
+abbrev w11b : List ℕ
+w11b = pool (header 1 0 5 2) (slot 20 3 5 1 ∷ slot 10 0 0 1 ∷ slot 10 2 4 1 ∷ slot 20 0 0 1 ∷ slot 30 0 0 2 ∷ [])
 
 -- A call on words, with as many answer words as its n commands need, which hold 77 before it: what it gives and answers, and the
 -- words that it leaves in the pool.
@@ -156,8 +176,14 @@ cases =
     ∷ row (says (wordsOf (prepared 9)) (2 ∷ 20 ∷ 2 ∷ 30 ∷ 2 ∷ 10 ∷ 3 ∷ 20 ∷ []) 4) (0 ∷ 0 ∷ 0 ∷ 1 ∷ 0 ∷ 3 ∷ 0 ∷ 4 ∷ 0 ∷ 2 ∷ [])
     ∷ row (leaves-words (wordsOf (prepared 9)) (2 ∷ 20 ∷ 2 ∷ 30 ∷ 2 ∷ 10 ∷ 3 ∷ 20 ∷ []) 4) router20
     ∷ row (says router20 (1 ∷ 20 ∷ []) 1) (0 ∷ 0 ∷ 6 ∷ 0 ∷ [])
+    -- 02 (v) "Keep L in the fourth header word": the second key makes it 1, a delete under the root takes the sibling's weight off it, kind 7
+    -- at the root keeps it. (Kind 1 at the root raises it in P3, kind 6 there lowers it in P5.)
+    ∷ row (leaves-words (wordsOf (prepared 5)) (2 ∷ 10 ∷ 2 ∷ 20 ∷ []) 2) w9
+    ∷ row (leaves-words w9 (3 ∷ 10 ∷ []) 1) w9b
+    ∷ row (leaves-words w10 (3 ∷ 10 ∷ []) 1) w10b
+    ∷ row (leaves-words w11 (4 ∷ 1 ∷ 7 ∷ []) 1) w11b
     ∷ []
 
 pub worked : allGiven cases ≡ allSaid cases
-unfolding cases allGiven allSaid redSlots headerOf slotAt slotsIn lengthGood inTree inChain inTop rootOf shownSlot spareOf shownHeader slotsFrom wordsOf isSlot follow chain chainEnds treeFound chainFound slotsOf bare all allFrom same rule-once freeWords rule-free children rule-children leafKeys routed rule-order wellWeighed rootWeighed rule-weights sumsOf rootSums rule-sums rule-spare rules allTrue rulesUnder foundWeight treeOf topOf stateUnder audited lastGroup below groups number lastArgument onlyArgument twoArguments argumentsAt meantAt operationAt commandAt after readFrom readBatch operation perform answersOf runAll answerWords filled called refused batchRead batch slotOf isLeaf size leaves red overweighted one count countIn level outside ifRed forRed conflicts redDistance overDistance excessWeight bound leftRed rightRed leftNotRed rightNotRed condition blackened singleLeft singleRight doubleLeft doubleRight lightened lightenLeft lightenRight effect holdsAt changeAt conditionAt stepped atLimit reach reachedSlot reachedKey insertAt newSlot movedTo cut deleteAt nodes upwards prepared search insertFirst insertMore insert deleted delete leafAt noInner stepKind stepNamed step report figures levelTop allowed lowestKind lowestStep nextTree treesAfter lastOf settled settle
+unfolding cases allGiven allSaid redSlots headerOf slotAt slotsIn lengthGood inTree inChain inTop rootOf shownSlot shownHeader slotsFrom wordsOf isSlot follow chain chainEnds treeFound chainFound slotsOf bare all allFrom same rule-once freeWords rule-free children rule-children leafKeys routed rule-order wellWeighed rootWeighed rule-weights sumsOf rootSums rule-sums rule-level rules allTrue rulesUnder foundWeight treeOf topOf stateUnder audited lastGroup below groups number lastArgument onlyArgument twoArguments argumentsAt meantAt operationAt commandAt after readFrom readBatch operation perform answersOf runAll answerWords filled called refused batchRead batch slotOf isLeaf size leaves red overweighted one count countIn level outside ifRed forRed conflicts redDistance overDistance excessWeight bound leftRed rightRed leftNotRed rightNotRed condition blackened singleLeft singleRight doubleLeft doubleRight lightened lightenLeft lightenRight effect holdsAt changeAt conditionAt stepped atLimit reach reachedSlot reachedKey insertAt newSlot movedTo cut deleteAt nodes upwards prepared search insertFirst insertMore insert deleted delete leafAt noInner stepKind stepNamed step report figures levelTop allowed lowestKind lowestStep nextTree treesAfter lastOf settled settle
 worked = refl

@@ -141,5 +141,5 @@ unfoldable pub batch : List ℕ → List ℕ → List ℕ → Call
 batch p bytes out = elim (audited p) [
   | Length ↦ refused PoolLength p out
   | Broken ↦ batchRead (readBatch bytes) p out (λ cs. refused RulesBroken p out)
-  | Passed h l ↦ batchRead (readBatch bytes) p out (λ cs. called cs p out)
+  | Passed h ↦ batchRead (readBatch bytes) p out (λ cs. called cs p out)
 ]
