@@ -5,7 +5,7 @@ use format::Slot;
 use tree::MOST_SLOTS;
 ghost use mathlib.Core.Path.{_≡_};
 ghost use lib.ListN.{getD, set};
-ghost use Prim.Native.Nat.{pred};
+ghost use Prim.Native.Nat.{pred, _-_};
 ghost use Rattle.format.specs.Words.{headerOf, putHeader, putLevel, slotAt, putSlot, slotsIn, lastSlot, lengthGood, freeSlot};
 ghost use Rattle.format.specs.Audit.{isSlot};
 
@@ -153,6 +153,13 @@ pub fn one_less(n: u32) -> u32
     ensures { λ r. ⌜ r ≡ pred n ⌝ }
 {
     if n == 0 { 0 } else { n - 1 }
+}
+
+// A sum that falls by n; it falls to 0 and no further.
+pub fn less(sum: u32, n: u32) -> u32
+    ensures { λ r. ⌜ r ≡ sum - n ⌝ }
+{
+    if sum < n { 0 } else { sum - n }
 }
 
 pub fn free_slot(next: u32) -> Slot
