@@ -89,31 +89,31 @@ module _ (S : State) (t : Tree) (sound : Sound S) (e : S .top ≡ full t) {h : H
       go true c = absurd (false≢true (sym i ∙ step-inner (made k s t (tree-good S t sound e .chromatic) (tree-once S t sound e s) c .step)))
       go false c = refl
 
-  allowed-shows : (k : Kind) (s : ℕ) → allowedWords k (h .root) p s ≡ allowed s k t
+  allowed-shows : (k : Kind) (s : ℕ) → allowedWords k h p s ≡ allowed s k t
   unfolding allowedWords allowedAround allowed
   allowed-shows k s = go (innerIn s 1 t) refl
     where
       go : (b : Bool) → innerIn s 1 t ≡ b
-          → (innerAt p s && (fits k (aroundAt p s) && not (limitAt k (h .root) p s))) ≡ (conditionAt k s t && not (atLimit k s t))
+          → (innerAt p s && (fits k (aroundAt p s) && not (limitAt k h s))) ≡ (conditionAt k s t && not (atLimit k s t))
       go true i = rw (inner-shows s ∙ i, condition-shows S t sound e p shows k s i, limit-shows S t sound e p shows k s)
       go false i = rw (inner-shows s ∙ i, no-condition k s i)
 
   -- The scans go alike.
-  kind-shows : (ks : List Kind) (s : ℕ) → firstKind ks (h .root) p s ≡ lowestKind ks s t
+  kind-shows : (ks : List Kind) (s : ℕ) → firstKind ks h p s ≡ lowestKind ks s t
   unfolding firstKind lowestKind
   kind-shows [] s = refl
   kind-shows (k ∷ ks) s = rw (allowed-shows k s, firstKind) (ap (λ o. elim (allowed s k t) [ true ↦ some k | false ↦ o ]) (kind-shows ks s))
 
-  from-shows : (n s : ℕ) → firstFrom n (h .root) p s ≡ lowestOf (lowestStep n s t)
+  from-shows : (n s : ℕ) → firstFrom n h p s ≡ lowestOf (lowestStep n s t)
   unfolding firstFrom lowestStep lowestOf
   from-shows zero s = refl
   from-shows (suc n) s = rw (kind-shows kinds s, firstFrom) (go (lowestKind kinds s t) (from-shows n (suc s)))
     where
-      go : (o : Option Kind) → firstFrom n (h .root) p (suc s) ≡ lowestOf (lowestStep n (suc s) t)
-          → elim o [ some k ↦ At s k | none ↦ firstFrom n (h .root) p (suc s) ] ≡ lowestOf (elim o [ some k ↦ some (s, k) | none ↦ lowestStep n (suc s) t ])
+      go : (o : Option Kind) → firstFrom n h p (suc s) ≡ lowestOf (lowestStep n (suc s) t)
+          → elim o [ some k ↦ At s k | none ↦ firstFrom n h p (suc s) ] ≡ lowestOf (elim o [ some k ↦ some (s, k) | none ↦ lowestStep n (suc s) t ])
       go (some k) rest = refl
       go none rest = rest
 
-  pub first-shows : firstAllowed (h .root) p ≡ lowestOf (lowestStep (S .slots) 1 t)
+  pub first-shows : firstAllowed h p ≡ lowestOf (lowestStep (S .slots) 1 t)
   unfolding firstAllowed
   first-shows = rw (last-slot-is sound shows) (from-shows (S .slots) 1)

@@ -12,72 +12,75 @@ use Rattle.tree.specs.declared.Answer.the-variants.{Done, Spent}
 use Rattle.tree.specs.Settle.{lastOf, settled}
 use Rattle.format.specs.declared.Header.{Header}
 use Rattle.format.specs.Performing.{performed}
+use Rattle.kinds.specs.Effects.{headerAfter}
 use Rattle.steps.specs.declared.Lowest.{Lowest}
 use Rattle.steps.specs.declared.Lowest.the-variants.{At, Nothing}
-use Rattle.steps.specs.Steps.{takenWords, firstAllowed, nextPool, poolsAfter, settleUnder}
+use Rattle.steps.specs.Steps.{takenWords, firstAllowed, Pool, poolOf, nextPool, poolsAfter, settleUnder}
 
-module _ (root : ℕ) (p : List ℕ) where
-  pub next-none : firstAllowed root p ≡ Nothing → nextPool root p ≡ none
+module _ (P : Pool) where
+  pub next-none : firstAllowed (P .header) (P .words) ≡ Nothing → nextPool P ≡ none
   unfolding nextPool
   next-none e = rw (e, nextPool)
 
-  next-some : (s : ℕ) (k : Kind) → firstAllowed root p ≡ At s k → nextPool root p ≡ some (takenWords root p s k)
+  next-some : (s : ℕ) (k : Kind) → firstAllowed (P .header) (P .words) ≡ At s k
+      → nextPool P ≡ some (poolOf (headerAfter k s (P .header)) (takenWords (P .header .root) (P .words) s k))
   unfolding nextPool
   next-some s k e = rw (e, nextPool)
 
-  pub after-none : (b : ℕ) → nextPool root p ≡ none → poolsAfter root b p ≡ []
+  pub after-none : (b : ℕ) → nextPool P ≡ none → poolsAfter b P ≡ []
   unfolding poolsAfter
   after-none zero e = refl
   after-none (suc b) e = rw (e, poolsAfter)
 
-  after-spent : (b : ℕ) → b ≡ 0 → poolsAfter root b p ≡ []
+  after-spent : (b : ℕ) → b ≡ 0 → poolsAfter b P ≡ []
   unfolding poolsAfter
   after-spent b e = rw e
 
-  after-some : (b d : ℕ) (q : List ℕ) → b ≡ d + 1 → nextPool root p ≡ some q → poolsAfter root b p ≡ q ∷ poolsAfter root d q
+  after-some : (b d : ℕ) (Q : Pool) → b ≡ d + 1 → nextPool P ≡ some Q → poolsAfter b P ≡ Q ∷ poolsAfter d Q
   unfolding poolsAfter
-  after-some b d q e f = rw (e, add-one d, f, poolsAfter)
+  after-some b d Q e f = rw (e, add-one d, f, poolsAfter)
 
-last-none : (p : List ℕ) {qs : List (List ℕ)} → qs ≡ [] → lastOf p qs ≡ p
+last-none : (P : Pool) {Qs : List Pool} → Qs ≡ [] → lastOf P Qs ≡ P
 unfolding lastOf
-last-none p e = rw e
+last-none P e = rw e
 
-last-some : (p q : List ℕ) {qs rs : List (List ℕ)} → qs ≡ q ∷ rs → lastOf p qs ≡ lastOf q rs
+last-some : (P Q : Pool) {Qs Rs : List Pool} → Qs ≡ Q ∷ Rs → lastOf P Qs ≡ lastOf Q Rs
 unfolding lastOf
-last-some p q e = rw e
+last-some P Q e = rw e
 
 module _ (h : Header) (b : ℕ) (p₀ : List ℕ) where
-  pub record Turn (n : ℕ) (p : List ℕ) : Type 0 where
-    pub taken : length (poolsAfter (h .root) b p₀) ≡ n + length (poolsAfter (h .root) (b - n) p)
-    pub last : lastOf p₀ (poolsAfter (h .root) b p₀) ≡ lastOf p (poolsAfter (h .root) (b - n) p)
+  pub record Turn (n : ℕ) (P : Pool) : Type 0 where
+    pub taken : length (poolsAfter b (poolOf h p₀)) ≡ n + length (poolsAfter (b - n) P)
+    pub last : lastOf (poolOf h p₀) (poolsAfter b (poolOf h p₀)) ≡ lastOf P (poolsAfter (b - n) P)
 
-  pub begin : Turn 0 p₀
+  pub begin : Turn 0 (poolOf h p₀)
   begin = let e : b - 0 ≡ b = omega arith in record { taken = rw e (omega arith); last = rw e }
 
-  module _ (n : ℕ) (p : List ℕ) (t : Turn n p) where
-    pub turn : {f : Lowest} → f ≡ firstAllowed (h .root) p → (s : ℕ) (k : Kind) → f ≡ At s k → n < b → (q : List ℕ) → q ≡ takenWords (h .root) p s k → Turn (n + 1) q
-    turn ef s k e l q eq =
-        let g = after-some (h .root) p (b - n) (b - (n + 1)) q (omega arith) (next-some (h .root) p s k (sym ef ∙ e) ∙ ap some (sym eq)) in
-        record { taken = omega (arith, t .taken, ap length g); last = t .last ∙ last-some p q g }
+  module _ (n : ℕ) (P : Pool) (t : Turn n P) where
+    pub turn : {f : Lowest} → f ≡ firstAllowed (P .header) (P .words) → (s : ℕ) (k : Kind) → f ≡ At s k → n < b
+        → {g : Header} {q : List ℕ} → g ≡ headerAfter k s (P .header) → q ≡ takenWords (P .header .root) (P .words) s k → Turn (n + 1) (poolOf g q)
+    turn ef s k e l {g} {q} eg eq =
+        let next : nextPool P ≡ some (poolOf g q) = rw (eg, eq) (next-some P s k (sym ef ∙ e)) in
+        let r = after-some P (b - n) (b - (n + 1)) (poolOf g q) (omega arith) next in
+        record { taken = omega (arith, t .taken, ap length r); last = t .last ∙ last-some P (poolOf g q) r }
 
-    -- Where the list ends, its length is n and its last pool p.
-    settles : poolsAfter (h .root) (b - n) p ≡ [] → (o : Option (List ℕ)) → nextPool (h .root) p ≡ o
-        → (performed (settled n o) h ≡ (settleUnder p₀ h b) .result) × (p ≡ (settleUnder p₀ h b) .words)
+    -- Where the list ends, its length is n and its last pool P.
+    settles : poolsAfter (b - n) P ≡ [] → (o : Option Pool) → nextPool P ≡ o
+        → (performed (settled n o) (P .header) ≡ (settleUnder p₀ h b) .result) × (P .words ≡ (settleUnder p₀ h b) .words)
     unfolding settleUnder
     settles g o e =
-        let x : length (poolsAfter (h .root) b p₀) ≡ n = omega (arith, t .taken, ap length g) in
-        let y : lastOf p₀ (poolsAfter (h .root) b p₀) ≡ p = t .last ∙ last-none p g in
-        (rw (x, y, e), sym y)
+        let x : length (poolsAfter b (poolOf h p₀)) ≡ n = omega (arith, t .taken, ap length g) in
+        let y : lastOf (poolOf h p₀) (poolsAfter b (poolOf h p₀)) ≡ P = t .last ∙ last-none P g in
+        (rw (x, y, e), ap (λ (Q : Pool). Q .words) (sym y))
 
-    pub done : {f : Lowest} → f ≡ firstAllowed (h .root) p → f ≡ Nothing
-        → (performed (Done n) h ≡ (settleUnder p₀ h b) .result) × (p ≡ (settleUnder p₀ h b) .words)
+    pub done : {f : Lowest} → f ≡ firstAllowed (P .header) (P .words) → f ≡ Nothing
+        → (performed (Done n) (P .header) ≡ (settleUnder p₀ h b) .result) × (P .words ≡ (settleUnder p₀ h b) .words)
     unfolding settled
     done ef e =
-        let x = next-none (h .root) p (sym ef ∙ e) in
-        settles (after-none (h .root) p (b - n) x) none x
+        let x = next-none P (sym ef ∙ e) in
+        settles (after-none P (b - n) x) none x
 
-    pub spent : {f : Lowest} → f ≡ firstAllowed (h .root) p → (s : ℕ) (k : Kind) → f ≡ At s k → n ≡ b
-        → (performed (Spent n) h ≡ (settleUnder p₀ h b) .result) × (p ≡ (settleUnder p₀ h b) .words)
+    pub spent : {f : Lowest} → f ≡ firstAllowed (P .header) (P .words) → (s : ℕ) (k : Kind) → f ≡ At s k → n ≡ b
+        → (performed (Spent n) (P .header) ≡ (settleUnder p₀ h b) .result) × (P .words ≡ (settleUnder p₀ h b) .words)
     unfolding settled
-    spent ef s k e z =
-        settles (after-spent (h .root) p (b - n) (omega arith)) (some (takenWords (h .root) p s k)) (next-some (h .root) p s k (sym ef ∙ e))
+    spent ef s k e z = settles (after-spent P (b - n) (omega arith)) _ (next-some P s k (sym ef ∙ e))

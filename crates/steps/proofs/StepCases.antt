@@ -16,7 +16,7 @@ use Rattle.format.specs.Words.{slotAt}
 use Rattle.format.specs.Performing.{written}
 use Rattle.kinds.specs.Around.{aroundOf}
 use Rattle.kinds.specs.Conditions.{fits}
-use Rattle.kinds.specs.Effects.{applied}
+use Rattle.kinds.specs.Effects.{applied, headerAfter}
 use Rattle.steps.specs.Steps.{innerAt, limitAt, stepKind, stepNamed, stepUnder}
 
 module _ (p : List ℕ) (h : Header) (s : ℕ) where
@@ -38,11 +38,11 @@ module _ (p : List ℕ) (h : Header) (s : ℕ) where
     unfolding stepKind
     kind-10 f = rw (f, stepKind)
 
-    pub kind-11 : fits k (aroundOf p c) ≡ true → limitAt k (h .root) p s ≡ true → stepKind p h s c k ≡ written p (Refused LevelLimit) h
+    pub kind-11 : fits k (aroundOf p c) ≡ true → limitAt k h s ≡ true → stepKind p h s c k ≡ written p (Refused LevelLimit) h
     unfolding stepKind
     kind-11 f l = rw (f, stepKind, l)
 
-    pub kind-done : fits k (aroundOf p c) ≡ true → limitAt k (h .root) p s ≡ false
-        → stepKind p h s c k ≡ written (applied p s k (eqb s (h .root)) (aroundOf p c)) (Done (kindNumber k)) h
+    pub kind-done : fits k (aroundOf p c) ≡ true → limitAt k h s ≡ false
+        → stepKind p h s c k ≡ written (applied p s k (eqb s (h .root)) (aroundOf p c)) (Done (kindNumber k)) (headerAfter k s h)
     unfolding stepKind
     kind-done f l = rw (f, stepKind, l)

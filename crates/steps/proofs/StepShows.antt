@@ -31,10 +31,11 @@ use Rattle.format.proofs.Performing.{Ends, refused as ended, done, entry-kept, 
 use Rattle.format.proofs.Slots.{header-kept}
 use Rattle.kinds.specs.Around.{aroundOf, aroundAt}
 use Rattle.kinds.specs.Conditions.{fits}
-use Rattle.kinds.specs.Effects.{applied}
+use Rattle.kinds.specs.Effects.{applied, headerAfter}
 use Rattle.kinds.proofs.ConditionShows.{condition-shows}
 use Rattle.kinds.proofs.EffectShows.{effect-shows}
 use Rattle.steps.specs.Steps.{innerAt, limitAt, stepKind, stepNamed, stepUnder, stepAnswer, stepWords}
+use Rattle.steps.proofs.HeaderKept.{step-words}
 use Rattle.steps.proofs.LevelShows.{limit-shows}
 use Rattle.steps.proofs.AllowedShows.{inner-shows, inner-empty}
 use Rattle.steps.proofs.StepCases.{case-8, case-9, case-known, kind-10, kind-11, kind-done}
@@ -76,16 +77,16 @@ step-shows {h} {p} {S} sound shows s n = step-does S sound h p shows s n (steppi
 
 -- the same, of a pool
 pub step-entry : {p : List ℕ} {S : State} → Sound S → PoolShows p S → (s n : ℕ) → (stepAnswer p s n ≡ (step s n S) .answer) × PoolShows (stepWords p s n) ((step s n S) .after)
-unfolding stepAnswer stepWords
-step-entry sound shows s n = let d = step-shows sound shows s n in (d .answers, does-pool d)
+unfolding stepAnswer
+step-entry {p} sound shows s n = let d = step-shows sound shows s n in (d .answers, rw (step-words p s n) (does-pool d))
 
 -- "Codes 5 to 11 change no pool word", whatever the words.
 kind-ends : (p : List ℕ) (h : Header) (s : ℕ) (c : Slot) (k : Kind) → Ends p h (stepKind p h s c k)
 unfolding stepKind
-kind-ends p h s c k = go (fits k (aroundOf p c)) (limitAt k (h .root) p s)
+kind-ends p h s c k = go (fits k (aroundOf p c)) (limitAt k h s)
   where
     go : (b l : Bool) → Ends p h (elim b [
-      | true ↦ elim l [ true ↦ written p (Refused LevelLimit) h | false ↦ written (applied p s k (eqb s (h .root)) (aroundOf p c)) (Done (kindNumber k)) h ]
+      | true ↦ elim l [ true ↦ written p (Refused LevelLimit) h | false ↦ written (applied p s k (eqb s (h .root)) (aroundOf p c)) (Done (kindNumber k)) (headerAfter k s h) ]
       | false ↦ written p (Refused ConditionFalse) h
     ])
     go true true = ended
@@ -106,5 +107,5 @@ step-ends p h s n = go (innerAt p s)
     go false = ended
 
 pub refused-keeps-words : (p : List ℕ) (s n : ℕ) (f : Refusal) → stepAnswer p s n ≡ Refused f → stepWords p s n ≡ p
-unfolding stepAnswer stepWords
-refused-keeps-words p s n f e = entry-kept (step-ends p (headerOf p) s n) e
+unfolding stepAnswer
+refused-keeps-words p s n f e = step-words p s n ∙ entry-kept (step-ends p (headerOf p) s n) e

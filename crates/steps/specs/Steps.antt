@@ -5,7 +5,7 @@ use mathlib.Core.List.{List, [], _∷_}
 use mathlib.Core.Option.{Option, none, some}
 use lib.Dec.{eqb, leb}
 use lib.ListN.{length}
-use Prim.Native.Nat.{ℕ, zero, suc, _+_, _%_, _^_}
+use Prim.Native.Nat.{ℕ, zero, suc}
 use Rattle.tree.specs.declared.Kind.{Kind}
 use Rattle.tree.specs.declared.Kind.the-variants.{Blacken}
 use Rattle.tree.specs.declared.Named.{Named}
@@ -17,12 +17,12 @@ use Rattle.tree.specs.Codes.{mostLevel, kinds, kindNumber, named}
 use Rattle.tree.specs.Settle.{lastOf, settled}
 use Rattle.format.specs.declared.Header.{Header}
 use Rattle.format.specs.declared.Slot.{Slot}
-use Rattle.format.specs.Words.{headerOf, slotAt, lastSlot}
-use Rattle.format.specs.Performing.{Written, written, wordsAfter}
+use Rattle.format.specs.Words.{headerOf, putLevel, slotAt, lastSlot}
+use Rattle.format.specs.Performing.{Written, written}
 use Rattle.kinds.specs.declared.Around.{Around}
 use Rattle.kinds.specs.Around.{aroundOf, aroundAt}
 use Rattle.kinds.specs.Conditions.{fits}
-use Rattle.kinds.specs.Effects.{applied}
+use Rattle.kinds.specs.Effects.{applied, headerAfter}
 use Rattle.steps.specs.declared.Lowest.{Lowest}
 use Rattle.steps.specs.declared.Lowest.the-variants.{At, Nothing}
 
@@ -37,27 +37,16 @@ innerSlot p s c = leb 1 s && leb s (lastSlot p) && hasChildren c
 abbrev pub innerAt : List ℕ → ℕ → Bool
 innerAt p s = innerSlot p s (slotAt p s)
 
--- L: the weights on the way to the first leaf, added up to `sum`; at most n slots down.
-unfoldable pub levelFrom : ℕ → List ℕ → Slot → ℕ → ℕ
-levelFrom zero p c sum = sum
-levelFrom (suc n) p c sum = elim (hasChildren c) [
-  | true ↦ let d = slotAt p (c .left) in levelFrom n p d ((sum + d .weight) % 2 ^ 32)
-  | false ↦ sum
-]
-
-unfoldable pub levelAt : ℕ → List ℕ → ℕ
-levelAt root p = levelFrom (lastSlot p) p (slotAt p root) 0
-
 -- RULES 4.11: "Kind 1 at the root raises L. At L = 255 it is refused with 11."
-unfoldable pub limitAt : Kind → ℕ → List ℕ → ℕ → Bool
-limitAt k root p s = eqb (kindNumber k) (kindNumber Blacken) && eqb s root && eqb (levelAt root p) mostLevel
+unfoldable pub limitAt : Kind → Header → ℕ → Bool
+limitAt k h s = eqb (kindNumber k) (kindNumber Blacken) && eqb s (h .root) && eqb (h .level) mostLevel
 
 -- RULES 5.1: "An allowed step is a slot and kind that would be accepted." At an inner node, around which a stands; and at any slot.
-unfoldable pub allowedAround : Kind → ℕ → List ℕ → ℕ → Around → Bool
-allowedAround k root p s a = fits k a && not (limitAt k root p s)
+unfoldable pub allowedAround : Kind → Header → ℕ → Around → Bool
+allowedAround k h s a = fits k a && not (limitAt k h s)
 
-unfoldable pub allowedWords : Kind → ℕ → List ℕ → ℕ → Bool
-allowedWords k root p s = innerAt p s && allowedAround k root p s (aroundAt p s)
+unfoldable pub allowedWords : Kind → Header → List ℕ → ℕ → Bool
+allowedWords k h p s = innerAt p s && allowedAround k h s (aroundAt p s)
 
 -- the words after the effect of kind k at slot s
 unfoldable pub takenWords : ℕ → List ℕ → ℕ → Kind → List ℕ
@@ -69,7 +58,10 @@ unfoldable pub stepKind : List ℕ → Header → ℕ → Slot → Kind → Writ
 stepKind p h s c k =
     let a = aroundOf p c in
     elim (fits k a) [
-      | true ↦ elim (limitAt k (h .root) p s) [ true ↦ written p (Refused LevelLimit) h | false ↦ written (applied p s k (eqb s (h .root)) a) (Done (kindNumber k)) h ]
+      | true ↦ elim (limitAt k h s) [
+        | true ↦ written p (Refused LevelLimit) h
+        | false ↦ written (applied p s k (eqb s (h .root)) a) (Done (kindNumber k)) (headerAfter k s h)
+      ]
       | false ↦ written p (Refused ConditionFalse) h
     ]
 
@@ -83,41 +75,56 @@ unfoldable pub stepUnder : List ℕ → Header → ℕ → ℕ → Written
 stepUnder p h s n = elim (innerAt p s) [ true ↦ stepNamed p h s (named n) | false ↦ written p (Refused NoInnerNode) h ]
 
 -- the lowest of these kinds that is allowed at slot s
-unfoldable pub firstKind : List Kind → ℕ → List ℕ → ℕ → Option Kind
-firstKind [] root p s = none
-firstKind (k ∷ ks) root p s = elim (allowedWords k root p s) [ true ↦ some k | false ↦ firstKind ks root p s ]
+unfoldable pub firstKind : List Kind → Header → List ℕ → ℕ → Option Kind
+firstKind [] h p s = none
+firstKind (k ∷ ks) h p s = elim (allowedWords k h p s) [ true ↦ some k | false ↦ firstKind ks h p s ]
 
 -- RULES 5.2: "the lowest slot with an allowed kind, and there the lowest kind", among the n slots from s on
-unfoldable pub firstFrom : ℕ → ℕ → List ℕ → ℕ → Lowest
-firstFrom zero root p s = Nothing
-firstFrom (suc n) root p s = elim (firstKind kinds root p s) [ some k ↦ At s k | none ↦ firstFrom n root p (suc s) ]
+unfoldable pub firstFrom : ℕ → Header → List ℕ → ℕ → Lowest
+firstFrom zero h p s = Nothing
+firstFrom (suc n) h p s = elim (firstKind kinds h p s) [ some k ↦ At s k | none ↦ firstFrom n h p (suc s) ]
 
-unfoldable pub firstAllowed : ℕ → List ℕ → Lowest
-firstAllowed root p = firstFrom (lastSlot p) root p 1
+unfoldable pub firstAllowed : Header → List ℕ → Lowest
+firstAllowed h p = firstFrom (lastSlot p) h p 1
 
-unfoldable pub nextPool : ℕ → List ℕ → Option (List ℕ)
-nextPool root p = elim (firstAllowed root p) [ At s k ↦ some (takenWords root p s k) | Nothing ↦ none ]
+-- words, and the header that they stand under
+pub record Pool : Type 0 where
+  pub header : Header
+  pub words : List ℕ
+
+abbrev pub poolOf : Header → List ℕ → Pool
+poolOf h p = record { header = h; words = p }
+
+unfoldable pub nextPool : Pool → Option Pool
+nextPool P = let h = P .header in let p = P .words in elim (firstAllowed h p) [
+  | At s k ↦ some (poolOf (headerAfter k s h) (takenWords (h .root) p s k))
+  | Nothing ↦ none
+]
 
 -- RULES 5.2 and 5.3: "Settle repeats [..] until none is left or the budget is spent": the pools after the first.
-unfoldable pub poolsAfter : ℕ → ℕ → List ℕ → List (List ℕ)
-poolsAfter root zero p = []
-poolsAfter root (suc budget) p = elim (nextPool root p) [ some q ↦ q ∷ poolsAfter root budget q | none ↦ [] ]
+unfoldable pub poolsAfter : ℕ → Pool → List Pool
+poolsAfter zero P = []
+poolsAfter (suc budget) P = elim (nextPool P) [ some Q ↦ Q ∷ poolsAfter budget Q | none ↦ [] ]
 
 unfoldable pub settleUnder : List ℕ → Header → ℕ → Written
 settleUnder p h budget =
-    let qs = poolsAfter (h .root) budget p in
-    let q = lastOf p qs in
-    written q (settled (length qs) (nextPool (h .root) q)) h
+    let Qs = poolsAfter budget (poolOf h p) in
+    let Q = lastOf (poolOf h p) Qs in
+    written (Q .words) (settled (length Qs) (nextPool Q)) (Q .header)
 
--- The entries of a pool: the header is read once, at the beginning, and written once, at the end.
+-- The entries of a pool: the header is read once, at the beginning, and L written once, at the end; a step moves no other word of the header
+-- (`step-words`, `settle-words` in proofs/HeaderKept.antt).
+abbrev pub levelWritten : Written → List ℕ
+levelWritten w = putLevel (w .words) (w .result .header .level)
+
 unfoldable pub stepAnswer : List ℕ → ℕ → ℕ → Answer
 stepAnswer p s n = (stepUnder p (headerOf p) s n) .result .answer
 
 unfoldable pub stepWords : List ℕ → ℕ → ℕ → List ℕ
-stepWords p s n = wordsAfter (stepUnder p (headerOf p) s n)
+stepWords p s n = levelWritten (stepUnder p (headerOf p) s n)
 
 unfoldable pub settleAnswer : List ℕ → ℕ → Answer
 settleAnswer p budget = (settleUnder p (headerOf p) budget) .result .answer
 
 unfoldable pub settleWords : List ℕ → ℕ → List ℕ
-settleWords p budget = wordsAfter (settleUnder p (headerOf p) budget)
+settleWords p budget = levelWritten (settleUnder p (headerOf p) budget)

@@ -5,15 +5,16 @@ use native.Mathlib.Omega.{arith}
 use lib.ListN.{length}
 use Prim.Native.Nat.{_-_, _≤_}
 use borrow.Author.Needs.{needs}
+use Rattle.steps.specs.Steps.{poolOf}
 use Rattle.steps.proofs.SettleTurns.{Turn, begin, turn, done, spent}
 use Rattle.steps.proofs.settle_under.Statement.{statement}
 use Rattle.steps.proofs.settle_under.Tie as tie
 
 abbrev Inv-loop : tie.InvT-loop
-Inv-loop pool₀ h budget root taken₀ pool taken = (taken ≤ budget) × (length pool ≡ length pool₀) × Turn h budget pool₀ taken pool
+Inv-loop pool₀ budget left₀ taken₀ pool left taken = (taken ≤ budget) × (length pool ≡ length pool₀) × Turn left₀ budget pool₀ taken (poolOf left pool)
 
 abbrev μ-loop : tie.MeasureT-loop
-μ-loop pool₀ h budget root taken₀ pool taken = budget - taken
+μ-loop pool₀ budget left₀ taken₀ pool left taken = budget - taken
 
 loop-holds : tie.Need-loop-holds Inv-loop μ-loop
 loop-holds c = (omega arith, refl, begin _ _ _)
@@ -63,7 +64,7 @@ loop-again c =
     let loop = found .before .before in (
       omega arith,
       step .take-step .kept .0 ∙ loop .loop .inv .1,
-      turn _ _ _ _ _ (loop .loop .inv .2) (found .first-allowed .ensures) _ _ (at .s .given .1) (omega arith) _ (step .take-step .ensures),
+      turn _ _ _ _ _ (loop .loop .inv .2) (found .first-allowed .ensures) _ _ (at .s .given .1) (omega arith) (step .take-step .ensures .0) (step .take-step .ensures .1),
     )
 
 pub settle-under-spec : {M : Type 1} → statement M
