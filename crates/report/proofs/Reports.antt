@@ -21,7 +21,7 @@ use Rattle.report.specs.Counted.{counted, redsIn, oversIn, Counts}
 use Rattle.report.specs.Report.{figureAt}
 use Rattle.report.proofs.Counting.{counted-eq}
 
-module _ {p : List ℕ} {h : Header} {l : ℕ} (R : Rooted p h l) where
+module _ {p : List ℕ} {h : Header} (R : Rooted p h) where
   root-fit : Fit (R .standing .tree)
   root-fit =
       let S = R .standing in
@@ -46,7 +46,7 @@ module _ {p : List ℕ} {h : Header} {l : ℕ} (R : Rooted p h l) where
 
     -- the seven numbers
     pub root-report : {n b : ℕ} → n ≡ h .nodes → b ≡ (3 * h .nodes + 1) * heavy .distance + 2 * h .nodes * reds .number + reds .distance
-        → record { nodes = n; level = l; «excess_weight» = heavy .number; conflicts = reds .number; «over_distance» = heavy .distance; «red_distance» = reds .distance; bound = b }
+        → record { nodes = n; level = h .level; «excess_weight» = heavy .number; conflicts = reds .number; «over_distance» = heavy .distance; «red_distance» = reds .distance; bound = b }
         ≡ report ((stateOf p) .top)
     unfolding report bound
     root-report d e = rw (d, e, R .top-is, R .nodes-are, R .level-is, reds-are, heavy-are)

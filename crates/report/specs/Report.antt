@@ -20,7 +20,7 @@ reported c f = record { code = c; figures = f }
 abbrev pub figuresAfter : List ℕ → Audited → Figures
 figuresAfter p Length = zeros
 figuresAfter p Broken = zeros
-figuresAfter p (Passed h l) = report ((stateOf p) .top)
+figuresAfter p (Passed h) = report ((stateOf p) .top)
 
 unfoldable pub reportOf : List ℕ → Reported
 reportOf p = let a = audited p in reported (auditedCode a) (figuresAfter p a)

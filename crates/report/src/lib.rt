@@ -222,10 +222,10 @@ fn zeros() -> Figures
     }
 }
 
-// The numbers of the tree that the words show, which passed the audit with the header h and this L. The walks go no deeper than the
+// The numbers of the tree that the words show, which passed the audit with the header h; L is read there. The walks go no deeper than the
 // audit's does.
-fn figures(pool: &[u32], h: Header, level: u32) -> Figures
-    requires { ⌜ audited (now pool) ≡ Passed h level ⌝ }
+fn figures(pool: &[u32], h: Header) -> Figures
+    requires { ⌜ audited (now pool) ≡ Passed h ⌝ }
     ensures { λ r. ⌜ r ≡ report ((stateOf (now (pool .entry))) .top) ⌝ }
 {
     if h.root == 0 {
@@ -235,9 +235,10 @@ fn figures(pool: &[u32], h: Header, level: u32) -> Figures
     let reds = below_other(pool, h.root, h.nodes, left);
     let heavy = over(pool, h.root, h.nodes, left);
     let n = h.nodes as u64;
+    let l = h.level as u64;
     Figures {
         nodes: n,
-        level: level as u64,
+        level: l,
         excess_weight: heavy.number,
         conflicts: reds.number,
         over_distance: heavy.distance,
@@ -255,7 +256,7 @@ pub fn report(pool: &[u32]) -> Reported
     let figures = match seen {
         Audited::Length => zeros(),
         Audited::Broken => zeros(),
-        Audited::Passed(h, level) => figures(pool, h, level),
+        Audited::Passed(h) => figures(pool, h),
     };
     Reported {
         code: code,

@@ -20,7 +20,7 @@ returns c =
     c .zeros .ensures ∙ sym (ap report (no-root kept (c .before .if1 .taken)))
 
 -- Beyond the first test a tree stands at the root.
-rooted : (c : tie.Else1) → Rooted (c .before .before .before .args .pool .now) (c .before .before .before .args .h) (c .before .before .before .args .level)
+rooted : (c : tie.Else1) → Rooted (c .before .before .before .args .pool .now) (c .before .before .before .args .h)
 rooted c = root-standing (rules-are-kept _ (λ i. omega (arith, c .before .before .shared-slice-known .given i)) (c .before .before .before .pre)) (c .if1 .left)
 
 allowance-requires : tie.Need-allowance-requires
@@ -35,17 +35,22 @@ over-requires c κs = rw (c .before .allowance .ensures) (rooted (c .before .bef
 cast-n : tie.Need-cast-n
 cast-n c = search needs
 
+cast-l : tie.Need-cast-l
+cast-l c = search needs
+
 step-bound-requires : tie.Need-step-bound-requires
 step-bound-requires c κs =
-    let left = c .before .before .before .allowance .ensures in
-    root-bound-fits (rooted (c .before .before .before .before)) (rw left at (c .before .before .below-other .ensures)) (rw left at (c .before .over .ensures))
+    let heavy = c .before .before in
+    let left = heavy .before .before .allowance .ensures in
+    root-bound-fits (rooted (heavy .before .before .before)) (rw left at (heavy .before .below-other .ensures)) (rw left at (heavy .over .ensures))
 
 returns-2 : tie.Need-returns-2
 returns-2 c =
-    let left = c .before .before .before .before .allowance .ensures in
-    let R = rooted (c .before .before .before .before .before) in
-    let A = rw left at (c .before .before .before .below-other .ensures) in
-    let B = rw left at (c .before .before .over .ensures) in
+    let heavy = c .before .before .before in
+    let left = heavy .before .before .allowance .ensures in
+    let R = rooted (heavy .before .before .before) in
+    let A = rw left at (heavy .before .below-other .ensures) in
+    let B = rw left at (heavy .over .ensures) in
     root-report R A B (omega (arith, counted-nodes R A B)) (c .step-bound .ensures)
 
 pub figures-spec : {M : Type 1} → statement M
@@ -58,5 +63,6 @@ figures-spec =
     below-other-requires
     over-requires
     cast-n
+    cast-l
     step-bound-requires
     returns-2)
