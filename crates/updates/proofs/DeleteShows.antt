@@ -2,26 +2,27 @@
 -- show its State (`delete-shows`); the entry of a pool leaves a pool that shows it (`delete-entry`).
 -- Why: the leaf, its parent and its sibling have three different slots, and no other slot of the tree or of the chain is written. The
 -- tree is the old one with one subtree replaced, the parent's by the sibling moved to the parent's slot (`Cutting`). The sum of the
--- two weights does not wrap, for none is above 255; and a tree of k keys has 2k - 1 nodes. Assumes nothing.
+-- two weights does not wrap, for none is above 255; and a tree of k keys has 2k - 1 nodes. Where the parent is the root the edge above
+-- it stays 1, so L falls by the sibling's weight, and else it stays (`cutting-level`). Assumes nothing.
 use mathlib.Core.Path.{_≡_, refl, ap, sym, _∙_}
 use mathlib.Core.Logic.{_≢_}
 use mathlib.Core.List.{List, [], _∷_}
 use lib.Dec.{eqb}
 use borrow.Author.Tests.{eq-eqb, ne-eqb, le-leb, lt-leb}
 use native.Mathlib.Omega.{arith}
-use Prim.Native.Nat.{ℕ, pred, _+_, _/_, _≤_, _<_}
+use Prim.Native.Nat.{ℕ, pred, _+_, _-_, _/_, _≤_, _<_}
 use Rattle.tree.specs.declared.Answer.the-variants.{Done}
 use Rattle.tree.specs.declared.Refusal.the-variants.{KeyAbsent}
 use Rattle.tree.specs.Codes.{mostLevel}
-use Rattle.tree.specs.Tree.{Tree, leaf, node, slotOf, isLeaf, size, leaves, one, count, countIn}
+use Rattle.tree.specs.Tree.{Tree, leaf, node, slotOf, isLeaf, size, leaves, one, count, countIn, level, Chromatic}
 use Rattle.tree.specs.Updates.{reach, reachedSlot, reachedKey, movedTo, Cut, cut, deleteAt}
-use Rattle.tree.specs.State.{State, state, Top, empty, full, nodes, Good, GoodTop, Sound, gives, deleted, delete}
+use Rattle.tree.specs.State.{State, state, Top, empty, full, nodes, levelTop, Good, GoodTop, Sound, gives, deleted, delete}
 use Rattle.tree.proofs.Tests.{same-or-not}
 use Rattle.tree.proofs.Order.{nodes-of}
-use Rattle.tree.proofs.Delete.{Del, cut-left, cut-right, in-left as del-left, in-right as del-right, deleteAt-is, delete-size, delete-leaves, delete-root}
+use Rattle.tree.proofs.Delete.{Del, cut-left, cut-right, in-left as del-left, in-right as del-right, deleteAt-is, delete-size, delete-leaves, delete-root, delete-levels}
 use Rattle.format.specs.declared.Header.{Header}
 use Rattle.format.specs.declared.Slot.{Slot}
-use Rattle.format.specs.Words.{header, slotAt, putSlot, freeSlot, headOf, rootOf, spareOf, shownHeader, weighing}
+use Rattle.format.specs.Words.{header, slotAt, putSlot, freeSlot, headOf, rootOf, shownHeader, weighing}
 use Rattle.format.specs.Shows.{At, Holds, holds-leaf, holds-node, HoldsTop, chain-more, Shows, PoolShows}
 use Rattle.format.specs.Performing.{written}
 use Rattle.format.proofs.Slots.{header-eq, slot-length}
@@ -32,9 +33,9 @@ use Rattle.format.proofs.Replace.{In, top, in-left, in-right, in-holds, in-coun
 use Rattle.format.proofs.Shown.{placed-once, shows-tree}
 use Rattle.format.proofs.Cover.{tree-light}
 use Rattle.format.proofs.Performing.{Does, does-refused, does-done, does-pool}
-use Rattle.updates.specs.Updating.{way, sum, weightUnder, freed, freedWords, siblingOf, joined, deleteRoot, deleteBelow, deleteLeaf, deleteAtLeaf, deleteUnder, deleteWords, deleteAnswer}
+use Rattle.updates.specs.Updating.{way, sum, byRoot, freed, freedWords, siblingOf, joined, deleteRoot, deleteBelow, deleteLeaf, deleteAtLeaf, deleteUnder, deleteWords, deleteAnswer}
 use Rattle.updates.proofs.Ways.{parentOf}
-use Rattle.updates.proofs.RootWeight.{weight-root, weight-below}
+use Rattle.updates.proofs.ByRoot.{by-root, by-below}
 use Rattle.updates.proofs.SearchShows.{root-empty, root-some, way-shows, leaf-shows}
 
 -- `Fork v s w b t`: the root v of t has two children, the leaf s, on either side, and b, to which an edge of weight w leads.
@@ -116,6 +117,11 @@ lifted d e i = record {
 parent-stands : {x par w s b q : ℕ} {t u : Tree} {join : ℕ → ℕ → ℕ} (d : Cutting x par w t s b u join q) → 1 ≤ count (d .parent) t
 parent-stands d = let v = d .parent in omega (arith, in-count v (d .put), fork-count v (d .fork), one-same v v refl)
 
+-- where v stands above t, and no slot twice, the cut is not at v
+cut-below : {x par w s b q : ℕ} {t u : Tree} {join : ℕ → ℕ → ℕ} (v : ℕ) (d : Cutting x par w t s b u join q)
+    → one (eqb (d .parent) v) + count (d .parent) t ≤ 1 → v ≢ d .parent
+cut-below v d o e = omega (arith, one-same (d .parent) v (sym e), parent-stands d)
+
 module _ (x par v k wl wr : ℕ) (l r : Tree) where
   goes-left : x ≤ k → (parentOf x par (node v k wl l wr r) ≡ parentOf x v l) × (reachedSlot x (node v k wl l wr r) ≡ reachedSlot x l)
   unfolding parentOf reachedSlot reach
@@ -151,20 +157,33 @@ module _ {x : ℕ} where
 
   -- "(1 if it is the root)"
   cutting-root : {t : Tree} {c : Cut} → Del x 1 t c → ((s : ℕ) → count s t ≤ 1)
-      → Cutting x 0 1 t (c .leafSlot) (c .siblingSlot) (c .tree) (weightUnder (slotOf t)) 1
+      → Cutting x 0 1 t (c .leafSlot) (c .siblingSlot) (c .tree) (λ v. byRoot (slotOf t) v 1) 1
   unfolding cut slotOf count parentOf reachedSlot reach
   cutting-root (cut-left {v} {k} {wl} {wr} {s} {r} h) o =
-      here (weightUnder v) leaf-left (goes-left x 0 v k wl wr (leaf s x) r h) (weight-root v (1 + wr))
+      here (λ y. byRoot v y 1) leaf-left (goes-left x 0 v k wl wr (leaf s x) r h) (by-root v 1 (1 + wr))
   cutting-root (cut-right {v} {k} {wl} {wr} {s} {l} h) o =
-      here (weightUnder v) leaf-right (goes-right x 0 v k wl wr l (leaf s x) h) (weight-root v (1 + wl))
+      here (λ y. byRoot v y 1) leaf-right (goes-right x 0 v k wl wr l (leaf s x) h) (by-root v 1 (1 + wl))
   cutting-root (del-left {v} {k} {wl} {wr} {l} {r} h d) o =
       let e = cutting v d in
-      let n : v ≢ e .parent = λ f. omega (arith, o (e .parent), one-same (e .parent) v (sym f), parent-stands e) in
-      lifted e (goes-left x 0 v k wl wr l r h) (rw (weight-below v (e .parent) _ n) (in-left (e .put)))
+      let n = cut-below v e (omega (arith, o (e .parent))) in
+      lifted e (goes-left x 0 v k wl wr l r h) (rw (by-below v (e .parent) _ _ n) (in-left (e .put)))
   cutting-root (del-right {v} {k} {wl} {wr} {l} {r} h d) o =
       let e = cutting v d in
-      let n : v ≢ e .parent = λ f. omega (arith, o (e .parent), one-same (e .parent) v (sym f), parent-stands e) in
-      lifted e (goes-right x 0 v k wl wr l r h) (rw (weight-below v (e .parent) _ n) (in-right (e .put)))
+      let n = cut-below v e (omega (arith, o (e .parent))) in
+      lifted e (goes-right x 0 v k wl wr l r h) (rw (by-below v (e .parent) _ _ n) (in-right (e .put)))
+
+  -- A cut at the root lowers L by the sibling's weight, and no other changes it.
+  cutting-level : {t : Tree} {c : Cut} (d : Del x 1 t c) (o : (s : ℕ) → count s t ≤ 1) → Chromatic 1 t
+      → byRoot (slotOf t) ((cutting-root d o) .parent) (level t - (cutting-root d o) .siblingWeight) (level t) ≡ level (c .tree)
+  unfolding cutting-root here lifted cut slotOf count
+  cutting-level (cut-left {v} h) o e = by-root v _ _ ∙ omega (arith, (delete-levels (cut-left h) e) .same)
+  cutting-level (cut-right {v} h) o e = by-root v _ _ ∙ omega (arith, (delete-levels (cut-right h) e) .same)
+  cutting-level (del-left {v} h d) o e =
+      let f = cutting v d in
+      by-below v _ _ _ (cut-below v f (omega (arith, o (f .parent)))) ∙ omega (arith, (delete-levels (del-left h d) e) .same)
+  cutting-level (del-right {v} h d) o e =
+      let f = cutting v d in
+      by-below v _ _ _ (cut-below v f (omega (arith, o (f .parent)))) ∙ omega (arith, (delete-levels (del-right h d) e) .same)
 
 -- The sibling, copied into slot v with another weight, is held there.
 moved-root : (v : ℕ) (t : Tree) → slotOf (movedTo v t) ≡ v
@@ -180,7 +199,7 @@ moved-holds v q z (holds-node h hl hr) a n = holds-node a (kept z hl (λ y. omeg
 
 -- Below the root: what the three writes leave. a is the leaf's slot and b the sibling's.
 module _ {h : Header} {p : List ℕ} {S : State} {x a b : ℕ} {t u : Tree} (g : Sound S) (s : Shows h p S) (tree-is : S .top ≡ full t)
-    (k : Cutting x 0 1 t a b u (weightUnder (slotOf t)) 1) where
+    (k : Cutting x 0 1 t a b u (λ v. byRoot (slotOf t) v 1) 1) where
   once : (y : ℕ) → count y t + countIn y (S .free) ≤ 1
   once = placed-once g tree-is
 
@@ -204,12 +223,12 @@ module _ {h : Header} {p : List ℕ} {S : State} {x a b : ℕ} {t u : Tree} (g :
 
   -- the sibling, as it is written into the parent's slot
   moved : Slot
-  moved = weighing (rootSlot (k .siblingWeight) (k .sibling)) (weightUnder (slotOf t) (k .parent) (k .weight + k .siblingWeight))
+  moved = weighing (rootSlot (k .siblingWeight) (k .sibling)) (byRoot (slotOf t) (k .parent) 1 (k .weight + k .siblingWeight))
 
   cut-does : (n : ℕ) → slotOf u ≡ slotOf t → size t ≡ size u + 2
-      → Does (written (putSlot (putSlot (putSlot p (k .parent) moved) a (freeSlot (headOf (S .free)))) b (freeSlot a)) (Done n) (header (slotOf t) b (pred (pred (size t))) (spareOf (full t))))
+      → Does (written (putSlot (putSlot (putSlot p (k .parent) moved) a (freeSlot (headOf (S .free)))) b (freeSlot a)) (Done n) (header (slotOf t) b (pred (pred (size t))) (level u)))
       (gives (Done n) (state (S .slots) (full u) (b ∷ (a ∷ S .free))))
-  unfolding moved countIn shownHeader rootOf nodes spareOf HoldsTop
+  unfolding moved countIn shownHeader rootOf nodes levelTop HoldsTop
   cut-does n root less =
       let v = k .parent in
       let f = fork-held in
@@ -226,31 +245,37 @@ module _ {h : Header} {p : List ℕ} {S : State} {x a b : ℕ} {t u : Tree} (g :
       (chain-more (got w (f .leaf-slot) (before last) (omega (arith, apart a))) (chain-kept w (s .chain-held) apart)))
 
   -- what is written is that: the sum of two weights, none of them above 255, does not wrap
-  light : (y : ℕ) → 1 ≤ count y t → (slotAt p y) .weight ≤ mostLevel
+  good : Good t
   unfolding GoodTop
-  light y i = let good : Good t = rw tree-is at (g .good) in tree-light held (good .chromatic) (omega arith) (good .low) y i
+  good = rw tree-is at (g .good)
+
+  light : (y : ℕ) → 1 ≤ count y t → (slotAt p y) .weight ≤ mostLevel
+  light y i = tree-light held (good .chromatic) (omega arith) (good .low) y i
+
+  sibling-weight : (slotAt p b) .weight ≡ k .siblingWeight
+  sibling-weight = rw (sibling-at .content) (weight-of-root (k .siblingWeight) (k .sibling))
 
   joined-is : joined (slotOf t) (k .parent) (slotAt p (k .parent)) (slotAt p b) ≡ moved
   unfolding joined moved
   joined-is =
       let v = k .parent in
-      let sibling-weight : (slotAt p b) .weight ≡ k .siblingWeight = rw (sibling-at .content) (weight-of-root (k .siblingWeight) (k .sibling)) in
       let plus : sum ((slotAt p v) .weight) ((slotAt p b) .weight) ≡ k .weight + k .siblingWeight =
-      omega (arith, fork-held .weight-is, light v (parent-stands k), light b (omega (arith, within b, sibling-root b, one-same b b refl))) in
+      omega (arith, fork-held .weight-is, sibling-weight, light v (parent-stands k), light b (omega (arith, within b, sibling-root b, one-same b b refl))) in
       rw plus (rw (sibling-at .content))
 
   below-does : (n : ℕ) → slotOf u ≡ slotOf t → size t ≡ size u + 2 → size t / 2 ≡ n
+      → byRoot (slotOf t) (k .parent) (level t - k .siblingWeight) (level t) ≡ level u
       → Does (deleteBelow p h (k .parent) a) (gives (Done n) (state (S .slots) (full u) (b ∷ (a ∷ S .free))))
-  unfolding deleteBelow freed freedWords shownHeader rootOf nodes
-  below-does n root less half =
+  unfolding deleteBelow freed freedWords shownHeader rootOf nodes levelTop
+  below-does n root less half falls =
       let sibling-slot : siblingOf (slotAt p (k .parent)) a ≡ b = fork-held .sibling-is ∙ k .sibling-is in
-      let was : h ≡ header (slotOf t) (headOf (S .free)) (size t) (spareOf (full t)) = rw tree-is at (s .header-is) in
-      rw was (rw (sibling-slot, joined-is, half) (cut-does n root less))
+      let was : h ≡ header (slotOf t) (headOf (S .free)) (size t) (level t) = rw tree-is at (s .header-is) in
+      rw was (rw (sibling-slot, joined-is, half, sibling-weight, falls) (cut-does n root less))
 
 -- A root leaf is freed.
 root-does : {h : Header} {p : List ℕ} {S : State} (y k : ℕ) → Sound S → Shows h p S → S .top ≡ full (leaf y k)
     → Does (deleteRoot p h y) (gives (Done 0) (state (S .slots) empty (y ∷ S .free)))
-unfolding deleteRoot freed freedWords count shownHeader rootOf nodes spareOf slotOf size HoldsTop
+unfolding deleteRoot freed freedWords count shownHeader rootOf nodes levelTop slotOf size level HoldsTop
 root-does {h} {p} {S} y k g s e =
     let new = freeSlot (headOf (S .free)) in
     let was : h ≡ header y (headOf (S .free)) 1 0 = rw e at (s .header-is) in
@@ -265,10 +290,11 @@ deleted-does x (node v k wl l wr r) i g s e =
     let t = node v k wl l wr r in
     let c = deleteAt x 1 t in
     let d = deleteAt-is x 1 t refl i in
-    let f = cutting-root d (λ y. omega (arith, placed-once g e y)) in
+    let once : (y : ℕ) → count y t ≤ 1 = λ y. omega (arith, placed-once g e y) in
+    let f = cutting-root d once in
     let n : f .parent ≢ 0 = λ z. omega (arith, fork-held g s e f .parent-slot .from-one) in
     let half : size t / 2 ≡ leaves (c .tree) = omega (arith, nodes-of t, delete-leaves d) in
-    rw (f .parent-is, f .leaf-is) (rw (ne-eqb _ 0 n, deleteLeaf) (below-does g s e f (leaves (c .tree)) (delete-root d) (delete-size d) half))
+    rw (f .parent-is, f .leaf-is) (rw (ne-eqb _ 0 n, deleteLeaf) (below-does g s e f (leaves (c .tree)) (delete-root d) (delete-size d) half (cutting-level d once (good g s e f .chromatic))))
 
 pub delete-shows : {h : Header} {p : List ℕ} {S : State} (x : ℕ) → Sound S → Shows h p S → Does (deleteUnder p h x) (delete x S)
 unfolding deleteUnder deleteAtLeaf delete
