@@ -13,11 +13,11 @@ use native.Mathlib.Decide.{decLe}
 use Rattle.tree.specs.declared.Refusal.the-variants.{NoFit}
 use Rattle.tree.specs.declared.Answer.the-variants.{Done, Refused}
 use Rattle.tree.specs.Tree.{Tree, leaf, node, slotOf, count}
-use Rattle.tree.specs.State.{Top, empty, full, nodes, countTop, upwards, Sound}
+use Rattle.tree.specs.State.{Top, empty, full, nodes, levelTop, countTop, upwards, Sound}
 use Rattle.tree.proofs.Depth.{depth-half}
 use Rattle.tree.proofs.Counts.{OneOf, one-same, not-same}
 use Rattle.format.specs.declared.Slot.{Slot}
-use Rattle.format.specs.Words.{slot, header, putHeader, slotAt, putSlot, slotsIn, lastSlot, lengthGood, freeSlot, headOf, rootOf, spareOf, shownHeader, wordsOf}
+use Rattle.format.specs.Words.{slot, header, putHeader, slotAt, putSlot, slotsIn, lastSlot, lengthGood, freeSlot, headOf, rootOf, shownHeader, wordsOf}
 use Rattle.format.specs.Shows.{At, Holds, holds-leaf, holds-node, HoldsTop, Chain, chain-end, chain-more}
 use Rattle.format.proofs.Slots.{header-eq, slot-length, slot-same, slot-other}
 use Rattle.format.proofs.Frame.{frame}
@@ -26,7 +26,7 @@ use Rattle.saved.specs.Saved.{renumberedTop, withRest}
 use Rattle.saved.specs.Loaded.{loaded}
 use Rattle.saved.specs.There.{TopAt, tree-at}
 use Rattle.saved.specs.Calls.{loadCall}
-use Rattle.saved.proofs.Alike.{renumbered-like, top-nodes}
+use Rattle.saved.proofs.Alike.{renumbered-like, top-nodes, top-level}
 use Rattle.saved.proofs.States.{size-pos, none-more, rest-sound, count-parts}
 use Rattle.saved.proofs.Saves.{there-loaded}
 use Rattle.saved.proofs.Restarts.{both, load-differs, load-done}
@@ -127,11 +127,11 @@ root-is (full t) = omega (arith, size-pos t, slot-first 1 t)
 
 -- The tree, the free slots and the header.
 pub all-words : (p : List ℕ) (c : ℕ) (t : Top) → length p ≡ 4 + 4 * c → nodes t ≤ c → Sound (withRest c (renumberedTop t))
-    → putAll p c (nodes t) (renumberedTop t) ≡ wordsOf (withRest c (renumberedTop t))
-unfolding putAll withRest shownHeader spareOf
+    → putAll p c (nodes t) (levelTop t) (renumberedTop t) ≡ wordsOf (withRest c (renumberedTop t))
+unfolding putAll withRest shownHeader
 all-words p c t e few sound = written-decided sound (record {
   length-is = long;
-  header-is = header-eq (root-is t) (rw (same, add-one)) (sym same) refl;
+  header-is = header-eq (root-is t) (rw (same, add-one)) (sym same) (sym (top-level (renumbered-like t)));
   tree-held = held;
   chain-held = rw (same, ← add-one n) (up-chain q₁ c (n + 1) (c - n) long₁ (omega arith) (omega arith));
 })
@@ -192,15 +192,16 @@ module _ (bytes : List ℕ) (n at : ℕ) where
     build-tree says empty there z = absurd (some-nodes (sym z))
     build-tree says (full t) (tree-at x) z = says 1 t (length bytes) x .wrote
 
-pub build-words : (bytes : List ℕ) (c n at : ℕ) (p : List ℕ) {q₁ q₂ q : List ℕ} {a b : ℕ} → TopBuildSays bytes n at p q₁ → q₂ ≡ putUp q₁ (n + 1) (c + 1 - (n + 1))
-    → a ≡ min n 1 → b ≡ headOf (upwards (n + 1) (c - n)) → q ≡ putHeader q₂ (header a b n 0) → AllBuildSays bytes c n at p q
+pub build-words : (bytes : List ℕ) (c n l at : ℕ) (p : List ℕ) {q₁ q₂ q : List ℕ} {a b d : ℕ} → TopBuildSays bytes n at p q₁
+    → q₂ ≡ putUp q₁ (n + 1) (c + 1 - (n + 1)) → a ≡ min n 1 → b ≡ headOf (upwards (n + 1) (c - n)) → d ≡ l → q ≡ putHeader q₂ (header a b n d)
+    → AllBuildSays bytes c n l at p q
 unfolding putAll
-build-words bytes c n at p says e f g h t there nodes-are =
+build-words bytes c n l at p says e f g i h t there nodes-are =
     let z : c + 1 - (n + 1) ≡ c - n = omega arith in
-    h ∙ rw (f, g, e, z, says t there nodes-are)
+    h ∙ rw (f, g, i, e, z, says t there nodes-are)
 
 -- What the bytes that were judged good give.
-module _ {bytes : List ℕ} {c n at : ℕ} (L : Loads bytes c n at) where
+module _ {bytes : List ℕ} {c n l at : ℕ} (L : Loads bytes c n l at) where
   pub load-able : TopBuildable bytes n at × (n ≤ c) × (c + 1 < 2 ^ 32)
   load-able =
       let k = count-parts c n (L .counts) in (
@@ -230,12 +231,12 @@ module _ {bytes : List ℕ} {c n at : ℕ} (L : Loads bytes c n at) where
     unfolding withRest
     load-other z = both (load-differs p bytes long reads (λ e. z (e ∙ sym slots-are)))
 
-    pub load-filled : {q : List ℕ} → c ≡ d → AllBuildSays bytes c n at p q → (Done n ≡ (loadCall p bytes) .answer) × (q ≡ (loadCall p bytes) .left)
+    pub load-filled : {q : List ℕ} → c ≡ d → AllBuildSays bytes c n l at p q → (Done n ≡ (loadCall p bytes) .answer) × (q ≡ (loadCall p bytes) .left)
     unfolding withRest
     load-filled {q} e says =
         let same = L .found .nodes-are in
         let few : nodes (L .top) ≤ c = omega (arith, count-parts c n (L .counts) .inside) in
         let b = both (load-done p bytes long reads (e ∙ slots-are)) in
         let words : q ≡ wordsOf (withRest c (renumberedTop (L .top))) =
-        says (L .top) (L .found .there) same ∙ (rw (← same) (all-words p c (L .top) (omega (arith, good-length p long .length-is, slots-are)) few sound)) in
+        says (L .top) (L .found .there) same ∙ (rw (← same, L .level-is) (all-words p c (L .top) (omega (arith, good-length p long .length-is, slots-are)) few sound)) in
         (ap Done (sym (top-nodes (renumbered-like (L .top)) ∙ same)) ∙ b .0, words ∙ b .1)

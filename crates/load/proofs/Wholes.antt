@@ -1,17 +1,17 @@
 -- The reader's judgment of the whole: the tree and its end, C and N, return by return. Assumes nothing.
 use mathlib.Core.Path.{_≡_, refl, sym, _∙_}
 use mathlib.Core.Logic.{_≢_}
-use mathlib.Core.Bool.{Bool, true, false, false≢true}
+use mathlib.Core.Bool.{true, false, false≢true}
 use mathlib.Core.List.{List}
 use mathlib.Core.Option.{none}
 use lib.Dec.{eqb, leb}
 use lib.ListN.{length}
-use Prim.Native.Nat.{ℕ, _+_, _/_, _≤_, _<_}
+use Prim.Native.Nat.{ℕ, _+_, _-_, _/_, _≤_, _<_}
 use native.Mathlib.Omega.{arith}
 use borrow.Author.Tests.{eqb-true, eqb-false, lt-leb, le-leb}
 use Rattle.tree.specs.Codes.{mostSlots}
 use Rattle.tree.specs.Tree.{Tree, size}
-use Rattle.tree.specs.State.{State, Top, empty, full, nodes, keyEnd, Good, GoodTop, Sound}
+use Rattle.tree.specs.State.{State, Top, empty, full, nodes, levelTop, keyEnd, Good, GoodTop, Sound}
 use Rattle.tree.proofs.Depth.{depth-half}
 use Rattle.encoding.specs.declared.Number.the-variants.{Read, Wrong}
 use Rattle.encoding.specs.Numbers.{Bytes, number}
@@ -21,6 +21,7 @@ use Rattle.saved.proofs.Alike.{alike-size}
 use Rattle.saved.proofs.States.{size-pos, sound-count, count-parts}
 use Rattle.saved.proofs.There.{one-read, not-wrong, one-tree}
 use Rattle.saved.proofs.Saves.{none-there}
+use Rattle.load.specs.declared.JudgedTop.the-variants.{NotGood, Level}
 use Rattle.load.specs.Judging.{Fits, Found, NoneFound, FoundTop, TopSays, Loads}
 use Rattle.load.proofs.Judging.{first-number}
 
@@ -57,52 +58,56 @@ module _ {bytes : List ℕ} {at n : ℕ} where
 
 -- What judge_top answers.
 module _ (bytes : List ℕ) (at n : ℕ) where
-  pub top-none : n ≡ 0 → TopSays bytes at n (eqb at (length bytes))
-  unfolding nodes GoodTop
-  top-none e = go (eqb at (length bytes)) refl
-    where
-      go : (b : Bool) → eqb at (length bytes) ≡ b → TopSays bytes at n b
-      go true f = (empty, record { there = rw (← eqb-true at (length bytes) f) none-at; good = tt; nodes-are = sym e })
-      go false f = λ t found. eqb-false at (length bytes) f (top-empty t found e)
+  module _ (no-nodes : n ≡ 0) where
+    pub top-none-past : eqb at (length bytes) ≡ false → TopSays bytes at n NotGood
+    top-none-past f t found = eqb-false at (length bytes) f (top-empty t found no-nodes)
+
+    pub top-none : eqb at (length bytes) ≡ true → {l : ℕ} → l ≡ 0 → TopSays bytes at n (Level l)
+    unfolding nodes GoodTop levelTop
+    top-none f e = (empty, record { there = rw (← eqb-true at (length bytes) f) none-at; good = tt; nodes-are = sym no-nodes }, e)
 
   module _ (some-nodes : n ≢ 0) where
-    pub top-cut : {j : ℕ} → number bytes at ≡ Wrong j → TopSays bytes at n false
+    pub top-cut : {j : ℕ} → number bytes at ≡ Wrong j → TopSays bytes at n NotGood
     top-cut e t found = not-wrong (first-number (top-tree t found some-nodes .there) .reads) e
 
     module _ {a i : ℕ} (first : number bytes at ≡ Read a i) where
-      pub top-weight : a / 2 ≢ 1 → TopSays bytes at n false
+      pub top-weight : a / 2 ≢ 1 → TopSays bytes at n NotGood
       top-weight z t found =
           let F = first-number (top-tree t found some-nodes .there) in z (omega (arith, F .weight-is, one-read (F .reads) first .0))
 
-      pub top-fault : NoneFound bytes at 0 keyEnd ((n + 1) / 2) n → TopSays bytes at n false
+      pub top-fault : NoneFound bytes at 0 keyEnd ((n + 1) / 2) n → TopSays bytes at n NotGood
       top-fault absent t found =
           let T = top-tree t found some-nodes in
           absent 1 (T .tree) (length bytes) (T .there) (good-fits n (T .tree) (T .nodes-are) (T .good)) (omega (arith, T .nodes-are))
 
       module _ {next rest l : ℕ} (F : Found bytes at 0 keyEnd ((n + 1) / 2) n next rest l) where
-        pub top-more : rest ≢ 0 → TopSays bytes at n false
+        pub top-more : rest ≢ 0 → TopSays bytes at n NotGood
         top-more z t found =
             let T = top-tree t found some-nodes in
             let S = one-tree (T .there) (F .there) in
             z (omega (arith, T .nodes-are, F .nodes-are, alike-size (S .tree-same)))
 
-        pub top-whole : rest ≡ 0 → a / 2 ≡ 1 → TopSays bytes at n (eqb next (length bytes))
-        unfolding nodes GoodTop
-        top-whole none-left one-weight = go (eqb next (length bytes)) refl
-          where
-            weight-is : F .weight ≡ 1
-            weight-is = let W = first-number (F .there) in omega (arith, W .weight-is, one-read (W .reads) first .0)
+        pub top-past : eqb next (length bytes) ≡ false → TopSays bytes at n NotGood
+        top-past f t found = eqb-false next (length bytes) f (sym (one-tree (top-tree t found some-nodes .there) (F .there) .end-same))
 
-            go : (b : Bool) → eqb next (length bytes) ≡ b → TopSays bytes at n b
-            go true f = (
-              full (F .tree),
-              record {
-                there = tree-at (rw (weight-is, eqb-true next (length bytes) f) at (F .there));
-                good = fits-good weight-is (F .fits);
-                nodes-are = omega (arith, F .nodes-are);
-              },
-            )
-            go false f = λ t found. eqb-false next (length bytes) f (sym (one-tree (top-tree t found some-nodes .there) (F .there) .end-same))
+        -- The weight of the edge that it hangs from is in the sum.
+        weight-is : F .weight ≡ a / 2
+        weight-is = let W = first-number (F .there) in omega (arith, W .weight-is, one-read (W .reads) first .0)
+
+        pub top-sum : a / 2 ≤ l
+        top-sum = omega (arith, weight-is, F .sum-is)
+
+        pub top-whole : rest ≡ 0 → a / 2 ≡ 1 → eqb next (length bytes) ≡ true → {m : ℕ} → m ≡ l - 1 → TopSays bytes at n (Level m)
+        unfolding nodes GoodTop levelTop
+        top-whole none-left one-weight f e = (
+          full (F .tree),
+          record {
+            there = tree-at (rw (weight-is ∙ one-weight, eqb-true next (length bytes) f) at (F .there));
+            good = fits-good (weight-is ∙ one-weight) (F .fits);
+            nodes-are = omega (arith, F .nodes-are);
+          },
+          omega (arith, weight-is, F .sum-is),
+        )
 
 -- What is_count answers.
 module _ (c n : ℕ) where
@@ -149,11 +154,11 @@ module _ (bytes : List ℕ) (b : Bytes bytes) where
           let H = has S sound there in
           false≢true (sym e ∙ rw (H .slots-are, H .nodes-are) at (sound-count sound)))
 
-      pub no-top : TopSays bytes at n false → loaded bytes ≡ none
+      pub no-top : TopSays bytes at n NotGood → loaded bytes ≡ none
       no-top absent = none-there bytes b (λ S sound there. absent (S .top) (has S sound there .found))
 
-      pub all-found : isCount c n ≡ true → TopSays bytes at n true → Loads bytes c n at
-      all-found e t = record { count-from = i; top = t .0; slots-there = slots; count-there = count; found = t .1; counts = e }
+      pub all-found : isCount c n ≡ true → {l : ℕ} → TopSays bytes at n (Level l) → Loads bytes c n l at
+      all-found e t = record { count-from = i; top = t .0; slots-there = slots; count-there = count; found = t .1; level-is = t .2; counts = e }
 
 pub count-few : (c n : ℕ) → isCount c n ≡ true → n ≤ mostSlots
 count-few c n e = let k = count-parts c n e in omega (arith, k .few-slots, k .inside)

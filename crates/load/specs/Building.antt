@@ -25,9 +25,9 @@ unfoldable pub putUp : List ℕ → ℕ → ℕ → List ℕ
 putUp p s zero = p
 putUp p s (suc n) = putUp (putSlot p s (freeSlot (headOf (upwards (suc s) n)))) (suc s) n
 
--- all words: the tree, the free slots, the header
-unfoldable pub putAll : List ℕ → ℕ → ℕ → Top → List ℕ
-putAll p c n t = putHeader (putUp (putTop p t) (n + 1) (c - n)) (header (min n 1) (headOf (upwards (n + 1) (c - n))) n 0)
+-- all words: the tree, the free slots, the header with L
+unfoldable pub putAll : List ℕ → ℕ → ℕ → ℕ → Top → List ℕ
+putAll p c n l t = putHeader (putUp (putTop p t) (n + 1) (c - n)) (header (min n 1) (headOf (upwards (n + 1) (c - n))) n l)
 
 -- a tree stands in the bytes from place i on, whose slots from s on are 32-bit numbers
 pub record Buildable (bytes : List ℕ) (i s left : ℕ) : Type 0 where
@@ -57,5 +57,5 @@ pub record TopBuildable (bytes : List ℕ) (n i : ℕ) : Type 0 where
 abbrev pub TopBuildSays : List ℕ → ℕ → ℕ → List ℕ → List ℕ → Type 0
 TopBuildSays bytes n i p q = (t : Top) → TopAt bytes i t (length bytes) → nodes t ≡ n → q ≡ putTop p (renumberedTop t)
 
-abbrev pub AllBuildSays : List ℕ → ℕ → ℕ → ℕ → List ℕ → List ℕ → Type 0
-AllBuildSays bytes c n i p q = (t : Top) → TopAt bytes i t (length bytes) → nodes t ≡ n → q ≡ putAll p c n (renumberedTop t)
+abbrev pub AllBuildSays : List ℕ → ℕ → ℕ → ℕ → ℕ → List ℕ → List ℕ → Type 0
+AllBuildSays bytes c n l i p q = (t : Top) → TopAt bytes i t (length bytes) → nodes t ≡ n → q ≡ putAll p c n l (renumberedTop t)

@@ -1,13 +1,13 @@
 -- What the reader's private functions that judge say of the bytes: sound and complete at once. No public contract cites this page;
 -- it serves RULES 16.
 use mathlib.Core.Path.{_≡_}
-use mathlib.Core.Bool.{Bool, true, false}
+use mathlib.Core.Bool.{true}
 use mathlib.Core.List.{List}
 use mathlib.Core.Option.{none}
 use lib.ListN.{length}
 use Prim.Native.Nat.{ℕ, _+_, _≤_}
 use Rattle.tree.specs.Tree.{Tree, size, depth, level, Ordered, Chromatic}
-use Rattle.tree.specs.State.{Top, nodes, GoodTop}
+use Rattle.tree.specs.State.{Top, nodes, levelTop, GoodTop}
 use Rattle.encoding.specs.declared.Number.the-variants.{Read}
 use Rattle.encoding.specs.Numbers.{number}
 use Rattle.pool.specs.declared.Walk.{Walk}
@@ -15,6 +15,8 @@ use Rattle.pool.specs.declared.Walk.the-variants.{Bad, Whole}
 use Rattle.pool.specs.Walks.{mostSum}
 use Rattle.saved.specs.Loaded.{isCount, loaded}
 use Rattle.saved.specs.There.{TreeAt, TopAt}
+use Rattle.load.specs.declared.JudgedTop.{JudgedTop}
+use Rattle.load.specs.declared.JudgedTop.the-variants.{NotGood, Level}
 use Rattle.load.specs.declared.Said.{Said}
 use Rattle.load.specs.declared.Said.the-variants.{Nothing, Set}
 
@@ -49,19 +51,21 @@ pub record FoundTop (bytes : List ℕ) (i n : ℕ) (t : Top) : Type 0 where
   pub good : GoodTop t
   pub nodes-are : nodes t ≡ n
 
-abbrev pub TopSays : List ℕ → ℕ → ℕ → Bool → Type 0
-TopSays bytes i n true = (t : Top) × FoundTop bytes i n t
-TopSays bytes i n false = (t : Top) → FoundTop bytes i n t → ⊥
+-- none, or one and its L
+abbrev pub TopSays : List ℕ → ℕ → ℕ → JudgedTop → Type 0
+TopSays bytes i n NotGood = (t : Top) → FoundTop bytes i n t → ⊥
+TopSays bytes i n (Level l) = (t : Top) × FoundTop bytes i n t × (l ≡ levelTop t)
 
--- C, N and such a set after them
-pub record Loads (bytes : List ℕ) (c n at : ℕ) : Type 0 where
+-- C, N and such a set after them, whose L is l
+pub record Loads (bytes : List ℕ) (c n l at : ℕ) : Type 0 where
   pub count-from : ℕ
   pub top : Top
   pub slots-there : number bytes 0 ≡ Read c count-from
   pub count-there : number bytes count-from ≡ Read n at
   pub found : FoundTop bytes at n top
+  pub level-is : l ≡ levelTop top
   pub counts : isCount c n ≡ true
 
 abbrev pub WholeSays : List ℕ → Said → Type 0
 WholeSays bytes Nothing = loaded bytes ≡ none
-WholeSays bytes (Set c n at) = Loads bytes c n at
+WholeSays bytes (Set c n l at) = Loads bytes c n l at

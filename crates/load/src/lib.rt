@@ -104,29 +104,42 @@ fn ends(bytes: &[u8], at: usize) -> bool
     true
 }
 
-// Whether the numbers from place `at` to the end are one good tree of n nodes that hangs from an edge of weight 1; no numbers if n is 0.
-fn judge_top(bytes: &[u8], at: usize, n: u32) -> bool
+// What is found of the whole set: none that is good; or its L.
+enum JudgedTop {
+    NotGood,
+    Level(u32),
+}
+
+// The numbers from place `at` to the end, as one good tree of n nodes that hangs from an edge of weight 1; no numbers if n is 0. L is the sum
+// that judging the tree gave, less the root's weight, which counts in nothing.
+fn judge_top(bytes: &[u8], at: usize, n: u32) -> JudgedTop
     requires { ⌜ n < 2 ^ 31 ⌝ }
     ensures { λ r. ⌜ TopSays (now (bytes .entry)) at n r ⌝ }
 {
     if n == 0 {
-        return ends(bytes, at);
+        if !ends(bytes, at) {
+            return JudgedTop::NotGood;
+        }
+        return JudgedTop::Level(0);
     }
     let Number::Read(a, _) = number(bytes, at) else {
-        return false;
+        return JudgedTop::NotGood;
     };
     if a / TWICE != ROOT_WEIGHT {
-        return false;
+        return JudgedTop::NotGood;
     }
     let t = judge(bytes, at, 0, KEY_END, (n + 1) / 2, n);
     let whole = t.walk;
-    let Walk::Whole(rest, _) = whole else {
-        return false;
+    let Walk::Whole(rest, sum) = whole else {
+        return JudgedTop::NotGood;
     };
     if rest != 0 {
-        return false;
+        return JudgedTop::NotGood;
     }
-    ends(bytes, t.next)
+    if !ends(bytes, t.next) {
+        return JudgedTop::NotGood;
+    }
+    JudgedTop::Level(sum - ROOT_WEIGHT)
 }
 
 // 01: "C from 1 to 1,023"; N is at most C.
@@ -142,10 +155,10 @@ fn is_count(c: u32, n: u32) -> bool
     n <= c
 }
 
-// What the bytes say: nothing that a writer writes; or C, N, and where the nodes begin.
+// What the bytes say: nothing that a writer writes; or C, N, L, and where the nodes begin.
 enum Said {
     Nothing,
-    Set(u32, u32, usize),
+    Set(u32, u32, u32, usize),
 }
 
 fn judge_all(bytes: &[u8]) -> Said
@@ -160,10 +173,10 @@ fn judge_all(bytes: &[u8]) -> Said
     if !is_count(c, n) {
         return Said::Nothing;
     }
-    if !judge_top(bytes, at, n) {
+    let JudgedTop::Level(level) = judge_top(bytes, at, n) else {
         return Said::Nothing;
-    }
-    Said::Set(c, n, at)
+    };
+    Said::Set(c, n, level, at)
 }
 
 // The byte at which one of the `count` numbers from place `at` on goes wrong, the first that does; the count of bytes if all read.
@@ -292,9 +305,10 @@ fn first_slot(n: u32) -> u32
     if n == 0 { 0 } else { 1 }
 }
 
-fn build_all(pool: &mut [u32], bytes: &[u8], c: u32, n: u32, at: usize)
+// 02 (v): "Keep L in the fourth header word, true after every [..] read back."
+fn build_all(pool: &mut [u32], bytes: &[u8], c: u32, n: u32, level: u32, at: usize)
     requires { ⌜ TopBuildable (now bytes) n at × (n ≤ c) × (c + 1 < 2 ^ 32) ⌝ }
-    ensures { λ _. ⌜ AllBuildSays (now (bytes .entry)) c n at (now (pool .entry)) (now (pool .exit)) ⌝ }
+    ensures { λ _. ⌜ AllBuildSays (now (bytes .entry)) c n level at (now (pool .entry)) (now (pool .exit)) ⌝ }
 {
     build_top(pool, bytes, n, at);
     chain_up(pool, n + 1, c);
@@ -304,7 +318,7 @@ fn build_all(pool: &mut [u32], bytes: &[u8], c: u32, n: u32, at: usize)
             root: first_slot(n),
             free: next_free(n, c),
             nodes: n,
-            spare: 0,
+            level,
         },
     );
 }
@@ -317,13 +331,13 @@ pub fn load(pool: &mut [u32], bytes: &[u8]) -> Answer
     if !length_good(pool) {
         return Answer::Refused(Refusal::PoolLength);
     }
-    let Said::Set(c, n, at) = judge_all(bytes) else {
+    let Said::Set(c, n, level, at) = judge_all(bytes) else {
         let byte = place_word(bad_place(bytes));
         return Answer::Refused(Refusal::BadSaved(byte));
     };
     if c != last_slot(pool) {
         return Answer::Refused(Refusal::NoFit);
     }
-    build_all(pool, bytes, c, n, at);
+    build_all(pool, bytes, c, n, level, at);
     Answer::Done(n)
 }

@@ -34,7 +34,7 @@ top-tree : {t : Top} {w : ℕ} {u : Tree} → t ≡ full u → w ≡ 1 → treeN
 unfolding topNumbers
 top-tree e f = rw (e, f)
 
-module _ {p : List ℕ} {h : Header} {l : ℕ} (K : Kept p h l) where
+module _ {p : List ℕ} {h : Header} (K : Kept p h) where
   -- No root, no nodes.
   module _ (none : h .root ≡ 0) where
     no-numbers : topNumbers ((stateOf p) .top) ≡ []
@@ -49,7 +49,7 @@ module _ {p : List ℕ} {h : Header} {l : ℕ} (K : Kept p h l) where
 
   -- Else the tree at the root.
   module _ (some-root : h .root ≢ 0) {left : ℕ} (allowed : left ≡ allowance p) where
-    rooted : Rooted p h l
+    rooted : Rooted p h
     rooted = root-standing K some-root
 
     pub root-stands : Stands p (h .root) left

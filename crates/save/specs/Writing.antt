@@ -8,16 +8,9 @@ use lib.Seq.{sets}
 use Prim.Native.Nat.{ℕ, _+_, _*_, _^_, _<_}
 use Rattle.tree.specs.Codes.{mostSlots}
 use Rattle.tree.specs.Tree.{size}
-use Rattle.format.specs.declared.Header.{Header}
 use Rattle.format.specs.declared.Slot.{Slot}
-use Rattle.format.specs.declared.Audited.the-variants.{Passed}
-use Rattle.format.specs.Audit.{audited}
 use Rattle.pool.specs.Standing.{Standing}
 use Rattle.saved.specs.Saved.{treeNumbers, bytesOfAll}
-
--- the header h is that of words that pass the audit
-abbrev pub Passes : List ℕ → Header → Type 0
-Passes p h = (l : ℕ) × (audited p ≡ Passed h l)
 
 -- a slot's first number (RULES 16.2); a leaf's `left` is 0
 unfoldable pub firstNumber : Slot → ℕ

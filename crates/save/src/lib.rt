@@ -15,11 +15,12 @@ ghost use mathlib.Core.Path.{_≡_};
 ghost use mathlib.Core.List.{[], _∷_};
 ghost use lib.ListN.{length};
 ghost use Prim.Native.Nat.{_+_, _^_, _≤_, _<_};
-ghost use Rattle.format.specs.Audit.{stateOf};
+ghost use Rattle.format.specs.declared.Audited.the-variants.{Passed};
+ghost use Rattle.format.specs.Audit.{stateOf, audited};
 ghost use Rattle.pool.specs.Walks.{mostSum};
 ghost use Rattle.saved.specs.Saved.{topNumbers, bytesOfAll, savedBytes};
 ghost use Rattle.saved.specs.Calls.{saveInto, saveCall};
-ghost use Rattle.save.specs.Writing.{firstNumber, Stands, Counts, Placed, Put, Puts, Passes};
+ghost use Rattle.save.specs.Writing.{firstNumber, Stands, Counts, Placed, Put, Puts};
 
 const TWICE: u32 = 2;
 
@@ -82,7 +83,7 @@ fn put_tree(pool: &[u32], out: &mut [u8], s: u32, at: usize, left: u32) -> usize
 
 // The same of all nodes of a pool that passed the audit: none where the root is 0.
 fn nodes_length(pool: &[u32], h: Header) -> usize
-    requires { ⌜ Passes (now pool) h ⌝ }
+    requires { ⌜ audited (now pool) ≡ Passed h ⌝ }
     ensures { λ r. ⌜ r ≡ length (bytesOfAll (topNumbers ((stateOf (now (pool .entry))) .top))) ⌝ }
 {
     if h.root == 0 {
@@ -92,7 +93,7 @@ fn nodes_length(pool: &[u32], h: Header) -> usize
 }
 
 fn put_nodes(pool: &[u32], out: &mut [u8], h: Header, at: usize) -> usize
-    requires { ⌜ Passes (now pool) h × (at < 2 ^ 32) ⌝ }
+    requires { ⌜ (audited (now pool) ≡ Passed h) × (at < 2 ^ 32) ⌝ }
     ensures { λ r. ⌜ Put (topNumbers ((stateOf (now (pool .entry))) .top)) (now (out .entry)) (now (out .exit)) at r ⌝ }
 {
     if h.root == 0 {
@@ -103,7 +104,7 @@ fn put_nodes(pool: &[u32], out: &mut [u8], h: Header, at: usize) -> usize
 
 // A pool that passed the audit: the bytes are counted before the first is written.
 fn save_kept(pool: &[u32], out: &mut [u8], h: Header) -> Answer
-    requires { ⌜ Passes (now pool) h ⌝ }
+    requires { ⌜ audited (now pool) ≡ Passed h ⌝ }
     ensures answer { λ r. ⌜ r ≡ (saveInto (savedBytes (stateOf (now (pool .entry)))) (now (out .entry))) .answer ⌝ }
     ensures out { λ _. ⌜ now (out .exit) ≡ (saveInto (savedBytes (stateOf (now (pool .entry)))) (now (out .entry))) .left ⌝ }
 {
@@ -125,6 +126,6 @@ pub fn save(pool: &[u32], out: &mut [u8]) -> Answer
     match examine(pool) {
         Audited::Length => Answer::Refused(Refusal::PoolLength),
         Audited::Broken => Answer::Refused(Refusal::RulesBroken),
-        Audited::Passed(h, _) => save_kept(pool, out, h),
+        Audited::Passed(h) => save_kept(pool, out, h),
     }
 }

@@ -6,7 +6,7 @@ use mathlib.Core.Logic.{_≢_}
 use native.Mathlib.Decide.{decLt}
 use native.Mathlib.Omega.{arith}
 use Rattle.tree.specs.Tree.{Tree, leaf, node, size, count, keys, Ordered, level, Chromatic}
-use Rattle.tree.specs.State.{Top, empty, full, nodes, keysOf, Good, GoodTop}
+use Rattle.tree.specs.State.{Top, empty, full, nodes, levelTop, keysOf, Good, GoodTop}
 use Rattle.tree.proofs.Counts.{same-or-not, one-same, one-other}
 use Rattle.saved.specs.Saved.{treeNumbers, topNumbers, renumbered, renumberedTop, Alike, alike-leaf, alike-node, AlikeTop, alike-empty, alike-full}
 
@@ -89,6 +89,11 @@ pub top-nodes : {t u : Top} → AlikeTop t u → nodes u ≡ nodes t
 unfolding nodes
 top-nodes alike-empty = refl
 top-nodes (alike-full a) = alike-size a
+
+pub top-level : {t u : Top} → AlikeTop t u → levelTop u ≡ levelTop t
+unfolding levelTop
+top-level alike-empty = refl
+top-level (alike-full a) = alike-level a
 
 pub top-keys : {t u : Top} → AlikeTop t u → keysOf u ≡ keysOf t
 unfolding keysOf

@@ -1,4 +1,5 @@
 -- `load::build_all` meets its contract. Assumes nothing.
+use native.Mathlib.Omega.{arith}
 use Rattle.load.proofs.Filling.{build-words}
 use borrow.Author.Needs.{needs}
 use Rattle.load.proofs.build_all.Statement.{statement}
@@ -27,7 +28,7 @@ same-length c = search needs
 
 returns : tie.Need-returns
 returns c =
-    build-words _ _ _ _ _ (c .before .before .before .before .before .before .before .before .before .before .before .before .build-top .ensures) (c .before .before .before .before .before .before .before .before .chain-up .ensures) (c .before .before .before .before .first-slot .ensures) (c .before .before .before .next-free .ensures) (c .before .before .put-header .ensures)
+    build-words _ _ _ _ _ _ (c .before .before .before .before .before .before .before .before .before .before .before .before .build-top .ensures) (c .before .before .before .before .before .before .before .before .chain-up .ensures) (c .before .before .before .before .first-slot .ensures) (c .before .before .before .next-free .ensures) (omega arith) (c .before .before .put-header .ensures)
 
 pub build-all-spec : {M : Type 1} → statement M
 build-all-spec =

@@ -40,11 +40,17 @@ returns-3 c = no-count _ (λ x. omega (arith, c .before .before .before .before 
 judge-top-requires : tie.Need-judge-top-requires
 judge-top-requires c κs = omega (arith, count-few _ _ (sym (c .before .is-count .ensures) ∙ not-false _ (c .if1 .left)))
 
+enum-known-level : tie.Need-enum-known-level
+enum-known-level c = search needs
+
+enum-told-3 : tie.Need-enum-told-3
+enum-told-3 c = search needs
+
 returns-4 : tie.Need-returns-4
-returns-4 c = no-top _ (λ x. omega (arith, c .before .before .before .before .before .before .before .before .before .before .before .before .shared-slice-known .given x)) (sym (c .before .before .before .before .before .before .before .before .before .before .before .number .ensures) ∙ c .before .before .before .before .before .before .before .before .before .c .given .1) (sym (c .before .before .before .before .before .before .before .number2 .ensures) ∙ c .before .before .before .before .before .n .given .1) (rw (not-true (c .before .judge-top .result) (c .if2 .taken)) at (c .before .judge-top .ensures))
+returns-4 c = no-top _ (λ x. omega (arith, c .before .before .before .before .before .before .before .before .before .before .before .before .before .shared-slice-known .given x)) (sym (c .before .before .before .before .before .before .before .before .before .before .before .before .number .ensures) ∙ c .before .before .before .before .before .before .before .before .before .before .c .given .1) (sym (c .before .before .before .before .before .before .before .before .number2 .ensures) ∙ c .before .before .before .before .before .before .n .given .1) (rw (c .enum-told3 .given .1) at (c .before .before .judge-top .ensures))
 
 returns-5 : tie.Need-returns-5
-returns-5 c = all-found _ (λ x. omega (arith, c .before .before .before .before .before .before .before .before .before .before .before .before .shared-slice-known .given x)) (sym (c .before .before .before .before .before .before .before .before .before .before .before .number .ensures) ∙ c .before .before .before .before .before .before .before .before .before .c .given .1) (sym (c .before .before .before .before .before .before .before .number2 .ensures) ∙ c .before .before .before .before .before .n .given .1) (sym (c .before .before .before .is-count .ensures) ∙ not-false _ (c .before .before .if1 .left)) (rw (not-false (c .before .judge-top .result) (c .if2 .left)) at (c .before .judge-top .ensures))
+returns-5 c = all-found _ (λ x. omega (arith, c .before .before .before .before .before .before .before .before .before .before .before .before .before .before .shared-slice-known .given x)) (sym (c .before .before .before .before .before .before .before .before .before .before .before .before .before .number .ensures) ∙ c .before .before .before .before .before .before .before .before .before .before .before .c .given .1) (sym (c .before .before .before .before .before .before .before .before .before .number2 .ensures) ∙ c .before .before .before .before .before .before .before .n .given .1) (sym (c .before .before .before .before .before .is-count .ensures) ∙ not-false _ (c .before .before .before .before .if1 .left)) (rw (c .before .level .given .1) at (c .before .before .before .judge-top .ensures))
 
 pub judge-all-spec : {M : Type 1} → statement M
 judge-all-spec =
@@ -61,5 +67,7 @@ judge-all-spec =
     is-count-requires
     returns-3
     judge-top-requires
+    enum-known-level
+    enum-told-3
     returns-4
     returns-5)

@@ -7,11 +7,11 @@ use Rattle.save.proofs.nodes_length.Statement.{statement}
 use Rattle.save.proofs.nodes_length.Tie as tie
 
 returns : tie.Need-returns
-returns c = nodes-none (rules-are-kept _ (λ i. omega (arith, c .before .before .shared-slice-known .given i)) (c .before .before .before .pre .1)) (c .if1 .taken)
+returns c = nodes-none (rules-are-kept _ (λ i. omega (arith, c .before .before .shared-slice-known .given i)) (c .before .before .before .pre)) (c .if1 .taken)
 
 -- Beyond the first test.
-kept : (c : tie.Else1) → Kept (c .before .before .before .args .pool .now) (c .before .before .before .args .h) (c .before .before .before .pre .0)
-kept c = rules-are-kept _ (λ i. omega (arith, c .before .before .shared-slice-known .given i)) (c .before .before .before .pre .1)
+kept : (c : tie.Else1) → Kept (c .before .before .before .args .pool .now) (c .before .before .before .args .h)
+kept c = rules-are-kept _ (λ i. omega (arith, c .before .before .shared-slice-known .given i)) (c .before .before .before .pre)
 
 allowance-requires : tie.Need-allowance-requires
 allowance-requires c κs = search needs

@@ -7,11 +7,11 @@ use Rattle.save.proofs.put_nodes.Statement.{statement}
 use Rattle.save.proofs.put_nodes.Tie as tie
 
 returns : tie.Need-returns
-returns c = put-none (rules-are-kept _ (λ i. omega (arith, c .before .before .before .shared-slice-known .given i)) (c .before .before .before .before .pre .0 .1)) (c .if1 .taken) _ _
+returns c = put-none (rules-are-kept _ (λ i. omega (arith, c .before .before .before .shared-slice-known .given i)) (c .before .before .before .before .pre .0)) (c .if1 .taken) _ _
 
 -- Beyond the first test.
-kept : (c : tie.Else1) → Kept (c .before .before .before .before .args .pool .now) (c .before .before .before .before .args .h) (c .before .before .before .before .pre .0 .0)
-kept c = rules-are-kept _ (λ i. omega (arith, c .before .before .before .shared-slice-known .given i)) (c .before .before .before .before .pre .0 .1)
+kept : (c : tie.Else1) → Kept (c .before .before .before .before .args .pool .now) (c .before .before .before .before .args .h)
+kept c = rules-are-kept _ (λ i. omega (arith, c .before .before .before .shared-slice-known .given i)) (c .before .before .before .before .pre .0)
 
 allowance-requires : tie.Need-allowance-requires
 allowance-requires c κs = search needs

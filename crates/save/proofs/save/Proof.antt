@@ -20,7 +20,7 @@ enum-known-h : tie.Need-enum-known-h
 enum-known-h c = search needs
 
 save-kept-requires : tie.Need-save-kept-requires
-save-kept-requires c κs = (_, sym (c .before .before .before .before .examine .ensures) ∙ c .before .before .h .given .1)
+save-kept-requires c κs = sym (c .before .before .before .before .examine .ensures) ∙ c .before .before .h .given .1
 
 returns : tie.Need-returns
 returns c = both (save-length _ _ (length-wrong _ (sym (c .before .before .examine .ensures) ∙ c .enum-told .given .1)))

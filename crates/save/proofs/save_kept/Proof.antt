@@ -23,8 +23,8 @@ nodes-length-requires c κs = search needs
 
 -- What is known where all was counted.
 module _ (c : tie.After-nodes-length) where
-  kept : Kept (c .before .before .before .before .before .args .pool .now) (c .before .before .before .before .before .args .h) (c .before .before .before .before .before .pre .0)
-  kept = rules-are-kept _ (λ i. omega (arith, c .before .before .before .before .shared-slice-known .given i)) (c .before .before .before .before .before .pre .1)
+  kept : Kept (c .before .before .before .before .before .args .pool .now) (c .before .before .before .before .before .args .h)
+  kept = rules-are-kept _ (λ i. omega (arith, c .before .before .before .before .shared-slice-known .given i)) (c .before .before .before .before .before .pre)
 
   counted : c .before .pair-length .result + c .nodes-length .result ≡ length (savedBytes (stateOf (c .before .before .before .before .before .args .pool .now)))
   counted = saved-count kept (c .before .before .last-slot .ensures) (c .before .pair-length .ensures) (c .nodes-length .ensures)
