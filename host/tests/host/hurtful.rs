@@ -15,9 +15,10 @@ use std::time::{Duration, Instant};
 const SMALL_STACK: usize = 256 * 1024;
 const ROOMY_STACK: usize = 1024 * 1024;
 
-/// Words whose slots are all in one tangle: slot s is what `node` says, the root is slot 1, N is C.
+/// Words whose slots are all in one tangle: slot s is what `node` says, the root is slot 1, N is C. Leaves weigh 1 and the rest nothing,
+/// so that the fourth word stops no walk early.
 fn tangle(slots: usize, node: impl Fn(u32) -> [u32; 4]) -> Vec<u32> {
-    let mut words = vec![1, 0, slots as u32, 0];
+    let mut words = vec![1, 0, slots as u32, u32::from(slots > 1)];
     (1..=slots as u32).for_each(|s| words.extend(node(s)));
     words
 }

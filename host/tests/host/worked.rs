@@ -300,7 +300,7 @@ fn lengths() {
 fn order_of_refusals() {
     let good = after_p1(NINE).words;
     let mut broken = good.clone();
-    broken[3] = 1;
+    broken[3] = 0; // L is 1
     let short = &broken[..39];
     let bad_command = [2, 77, 1, 10, 6];
     for (words, bytes, room, want) in [
@@ -363,7 +363,7 @@ fn saved_forms() {
     assert_eq!(saved(&one, 8), [0x01, 0x01, 0x02, 0xFF, 0xFF, 0xFF, 0xFF, 0x0F]);
 }
 
-/// P4's slots are 1, 3, 5, 6, 7, 8 and 9 before and 1 to 7 after, and the chain 4, 2 becomes 8, 9.
+/// P4's slots are 1, 3, 5, 6, 7, 8 and 9 before and 1 to 7 after, and the chain 4, 2 becomes 8, 9. L is 2 before and after.
 #[test]
 fn p4_over_a_restart() {
     let before = after_p4();
@@ -371,7 +371,7 @@ fn p4_over_a_restart() {
     let ((code, n), after) = same_load(&[0xDEAD_BEEF; 40], &saved(&before, 16));
     assert_eq!((code, n), (0, 7));
     let slots = [
-        [1, 8, 7, 0],
+        [1, 8, 7, 2],
         [20, 2, 3, 1],
         [20, 0, 0, 2],
         [30, 4, 5, 1],
@@ -393,7 +393,7 @@ fn p4_over_a_restart() {
 fn order_of_refusals_of_save() {
     let good = after_p1(NINE).words;
     let mut broken = good.clone();
-    broken[3] = 1;
+    broken[3] = 0; // L is 1
     for (words, room, want) in [
         (&broken[..39], 0, (1, 0)),
         (&broken[..39], 16, (1, 0)),
