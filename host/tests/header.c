@@ -143,7 +143,7 @@ static void over_a_restart(const uint32_t *pool, size_t words) {
     check(chromatic_save(pool, words, out, count - 1) == refused_with(CHROMATIC_NO_FIT), "save: a byte too little");
     check(chromatic_load(smaller, CHROMATIC_POOL_WORDS(3), out, count - 1) == wrong_at(CHROMATIC_BAD_SAVED, 15), "load: bad bytes second");
     check(chromatic_load(smaller, CHROMATIC_POOL_WORDS(3), out, count) == refused_with(CHROMATIC_NO_FIT), "load: another C");
-    other[3] = 1;
+    other[3] = 0; /* L is 1 */
     check(chromatic_save(other, words, out, 0) == refused_with(CHROMATIC_RULES_BROKEN), "save: broken rules second");
     check(CHROMATIC_CODE(chromatic_save(pool, words, NOTHING, 0)) == CHROMATIC_NO_FIT, "save to NULL");
     check(chromatic_load(other, words, NOTHING, 0) == wrong_at(CHROMATIC_BAD_SAVED, 0), "load from NULL");

@@ -314,7 +314,7 @@ fn refused_calls() {
 fn too_tall() {
     let leaf = |key| [key, 0, 0, 255];
     let mut words =
-        [[1, 0, 9, 0], [3, 2, 3, 1], [2, 4, 7, 0], [4, 8, 9, 0], [1, 5, 6, 0], leaf(1), leaf(2), leaf(3), leaf(4), leaf(5)].concat();
+        [[1, 0, 9, 255], [3, 2, 3, 1], [2, 4, 7, 0], [4, 8, 9, 0], [1, 5, 6, 0], leaf(1), leaf(2), leaf(3), leaf(4), leaf(5)].concat();
     let mut pool = Pool::resume(&mut words[..]).unwrap();
     assert_eq!(pool.step(1, Kind::One), Ok(Stepped::TooTall));
     assert_eq!(pool.report().unwrap().settle_budget() as u64, pool.report().unwrap().bound);
@@ -479,7 +479,7 @@ fn raw_saves_and_loads() {
     assert_eq!([raw::save(&words[1..], &mut out), raw::load(&mut words[1..], &bytes)], [1 << 32; 2]);
     assert_eq!([raw::load(&mut words, &bytes[1..]), raw::load(&mut words, &[9, 0x80, 0x00])], [(13 << 32) + 15, (13 << 32) + 2]);
     assert_eq!([raw::save(&words, &mut out[..5]), raw::load(&mut words[4..], &bytes)], [14 << 32; 2]);
-    words[3] = 1;
+    words[3] = 0; // L is 1
     assert_eq!(raw::save(&words, &mut out), 2 << 32);
 }
 
@@ -782,9 +782,9 @@ fn raw_texts() {
     let full = words.clone();
     assert_eq!([raw::may_send(&mut words, 65_535, 8191, 2), raw::may_send(&mut words, 65_535, 8191, 3)], [16 << 32, 7 << 32]);
     assert_eq!([raw::may_send(&mut words[1..], 65_535, 8191, 2), raw::clear_notice(&mut words[1..], 65_535)], [1 << 32; 2]);
-    words[3] = 1;
+    words[3] = 0; // L is 1
     assert_eq!([raw::may_send(&mut words, 65_535, 8191, 2), raw::clear_notice(&mut words, 65_535)], [2 << 32; 2]);
-    words[3] = 0;
+    words[3] = 1;
     assert_eq!(words, full);
     assert_eq!([raw::clear_notice(&mut words, 65_535), raw::clear_notice(&mut words, 65_535)], [2, 0]);
 }
