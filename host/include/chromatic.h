@@ -1,5 +1,8 @@
 /* The set of marks for C and C++ hosts: libchromatic.a. Each function answers for every input and allocates nothing.
- * A pool is 4 + 4C words, C from 1 to 1,023. C slots hold (C+1)/2 keys: 127 slots hold 64 keys.
+ * A pool is 4 + 4C words, C from 1 to 1,023. C slots hold (C+1)/2 keys: 127 slots hold 64 keys. The fourth word is L, the report's
+ * CHROMATIC_LEVEL. Under interface 5 and before it was 0: such a pool with two keys or more is refused with CHROMATIC_RULES_BROKEN. Save
+ * it with an archive of interface 5, which takes those from before it too, and load the bytes with this one; to prepare it would forget
+ * every mark.
  * Lengths are in elements. A pointer may be NULL where its length is 0, and nowhere else. During a call what is written (pool,
  * answers, out) overlaps nothing else that is lent, the batch and the saved bytes included.
  * A batch is commands one after another, each an operation and its arguments. Numbers in it are seven-bit groups, the lowest first, the
@@ -22,8 +25,8 @@ extern "C" {
 /* The number of this interface; docs/INTERFACE.md says what each has. The function returns it. With GCC and Clang every file that
  * includes this header refers to the function, so that a program does not link with an archive of another interface; with
  * another compiler, call it once. */
-#define CHROMATIC_INTERFACE 5
-uint32_t chromatic_interface_5(void);
+#define CHROMATIC_INTERFACE 6
+uint32_t chromatic_interface_6(void);
 #ifdef __GNUC__
 __attribute__((used))
 #ifdef __has_attribute
@@ -31,7 +34,7 @@ __attribute__((used))
 __attribute__((retain)) /* from --gc-sections */
 #endif
 #endif
-static uint32_t (*const chromatic_interface_needed)(void) = chromatic_interface_5;
+static uint32_t (*const chromatic_interface_needed)(void) = chromatic_interface_6;
 #endif
 
 #ifdef __GNUC__
@@ -60,7 +63,7 @@ enum chromatic_code {
     CHROMATIC_GOOD = 0,
     /* The call is refused whole, and no word changes. */
     CHROMATIC_WRONG_LENGTH = 1,
-    CHROMATIC_RULES_BROKEN = 2,
+    CHROMATIC_RULES_BROKEN = 2, /* send nothing by it; a pool of interface 5 or before comes over by a save and a load, as said above */
     CHROMATIC_BAD_COMMAND = 3, /* number: the place where a number goes wrong, or where an unknown operation or a 257th command begins */
     CHROMATIC_FEW_ANSWERS = 4,
     /* The command is refused, and no pool word changes. */

@@ -12,7 +12,9 @@ use core::fmt;
 pub enum Refused {
     /// Code 1: the pool's length is not 4 + 4C with C from 1 to 1,023. (C slots hold (C+1)/2 keys, 127 hold 64.)
     WrongLength,
-    /// Code 2: the pool breaks an audit rule. What it says about marks means nothing: send no text by it.
+    /// Code 2: the pool breaks an audit rule. What it says about marks means nothing: send no text by it. A pool that an archive
+    /// of interface 5 or before left with two keys or more breaks one too: [`Pool::resume`](crate::Pool::resume) says how it
+    /// comes over.
     RulesBroken,
     /// Code 3: a command is unknown, cut short, not in shortest form, too large, or the 257th.
     BadCommand {
@@ -106,7 +108,10 @@ impl fmt::Display for Refused {
             Refused::WrongLength => {
                 write!(f, "the pool's length is not that of 1 to {} slots; Pool::words_for gives it", layout::MOST_SLOTS)
             }
-            Refused::RulesBroken => f.write_str("the pool breaks an audit rule; what it says of marks means nothing, send no text by it"),
+            Refused::RulesBroken => f.write_str(
+                "the pool breaks an audit rule; what it says of marks means nothing, send no text by it; if an archive of interface 5 or \
+                 before left it, save it with one of interface 5 and load the bytes with this one",
+            ),
             Refused::BadCommand { wrong_at } => write!(
                 f,
                 "the batch goes wrong at byte {wrong_at}, counted from 0: there a number is too large or not in shortest form, the batch \

@@ -146,6 +146,9 @@
 //! was told. **Then nothing is sent.** An empty set in their place sends every text again, so a service never begins one by
 //! itself: somebody does, once, for a new installation.
 //!
+//! Bytes that an earlier version of this crate saved load as they are. The words of an earlier version need not resume:
+//! [`Pool::resume`] says which, and how they come over.
+//!
 //! What a load refuses is all bytes that no save writes. A fault of the disk that makes another key of one is not among
 //! them: whoever fears that keeps a checksum beside the bytes.
 //!

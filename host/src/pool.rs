@@ -128,6 +128,10 @@ impl<W: Words> Pool<W> {
 
     /// Takes up words that hold a set from before: exactly those that keep every audit rule. Changes no word.
     ///
+    /// Words of two keys or more that crate 0.6.0 or before left (an archive of interface 5 or before) are refused: their fourth
+    /// word is 0, and here it is L. [Save](Pool::save) them with 0.6.0, which takes those from before it too, and [load](Pool::load)
+    /// the bytes here. To [prepare](Pool::prepare) them would forget every mark.
+    ///
     /// # Errors
     /// [`Refused::WrongLength`] or [`Refused::RulesBroken`]. (Words that were handed over are dropped then: lend them
     /// first if a damaged pool is to be looked at.)

@@ -1,5 +1,5 @@
-/* The header compiles as C and C++, and its declarations fit the archive: P1, P6, a set saved and loaded, the excess weight, the send limit,
- * the order of refusals, the places where a batch and saved bytes go wrong, NULL with length 0. */
+/* The header compiles as C and C++, and its declarations fit the archive: P1, P6, a set saved and loaded, the excess weight, a pool of before,
+ * the send limit, the order of refusals, the places where a batch and saved bytes go wrong, NULL with length 0. */
 #include "../include/chromatic.h"
 #include <stdio.h>
 #include <string.h>
@@ -143,7 +143,7 @@ static void over_a_restart(const uint32_t *pool, size_t words) {
     check(chromatic_save(pool, words, out, count - 1) == refused_with(CHROMATIC_NO_FIT), "save: a byte too little");
     check(chromatic_load(smaller, CHROMATIC_POOL_WORDS(3), out, count - 1) == wrong_at(CHROMATIC_BAD_SAVED, 15), "load: bad bytes second");
     check(chromatic_load(smaller, CHROMATIC_POOL_WORDS(3), out, count) == refused_with(CHROMATIC_NO_FIT), "load: another C");
-    other[3] = 1;
+    other[3] = 0; /* L is 1 */
     check(chromatic_save(other, words, out, 0) == refused_with(CHROMATIC_RULES_BROKEN), "save: broken rules second");
     check(CHROMATIC_CODE(chromatic_save(pool, words, NOTHING, 0)) == CHROMATIC_NO_FIT, "save to NULL");
     check(chromatic_load(other, words, NOTHING, 0) == wrong_at(CHROMATIC_BAD_SAVED, 0), "load from NULL");
@@ -176,6 +176,34 @@ static int marked(uint32_t *pool, size_t words, uint32_t key) {
     batch[count++] = CHROMATIC_AS(uint8_t, key);
     check(chromatic_batch(pool, words, batch, count, answer, CHROMATIC_ANSWER_WORDS) == 0, "search");
     return answer[0] == CHROMATIC_GOOD;
+}
+
+/* P1's tree in 7 slots, as an archive of interface 5 left and saved it. The words are refused, the bytes load. */
+static void a_pool_of_before(void) {
+    static const uint32_t left[] = {1, 0, 7, 0, 10, 2, 3, 1, 10, 0, 0, 1, 20, 4, 5, 0, 20, 0, 0, 1, 30, 6, 7, 0, 30, 0, 0, 1, 40, 0, 0, 1};
+    static const uint32_t one_key[] = {1, 2, 1, 0, 10, 0, 0, 1, 0, 3, 0, UINT32_MAX, 0, 0, 0, UINT32_MAX};
+    const uint8_t saved[] = {7, 7, 3, 10, 2, 10, 1, 20, 2, 20, 1, 30, 2, 30, 2, 40}, search[] = {CHROMATIC_SEARCH, 10};
+    uint32_t pool[CHROMATIC_POOL_WORDS(7)], answer[CHROMATIC_ANSWER_WORDS] = {0}, key;
+    uint8_t out[CHROMATIC_SAVED_BYTES(7)];
+    const size_t words = sizeof pool / sizeof pool[0];
+
+    memcpy(pool, left, sizeof left);
+    check(chromatic_audit(pool, words) == CHROMATIC_RULES_BROKEN, "a pool of before");
+    check(chromatic_report(pool, words, CHROMATIC_NODES) == 0, "a pool of before: report");
+    check(chromatic_batch(pool, words, search, sizeof search, answer, 2) == refused_with(CHROMATIC_RULES_BROKEN), "a pool of before: batch");
+    check(chromatic_save(pool, words, out, sizeof out) == refused_with(CHROMATIC_RULES_BROKEN), "a pool of before: save");
+    check(chromatic_may_send(pool, words, 1, 0, 1) == refused_with(CHROMATIC_RULES_BROKEN), "a pool of before: may send");
+    check(chromatic_clear_notice(pool, words, 1) == refused_with(CHROMATIC_RULES_BROKEN), "a pool of before: clear");
+    check(memcmp(pool, left, sizeof left) == 0, "a pool of before is as it was");
+
+    check(chromatic_load(pool, words, saved, sizeof saved) == 7, "load of bytes from before");
+    check(chromatic_audit(pool, words) == CHROMATIC_GOOD, "audit of bytes from before");
+    for (key = 10; key <= 40; key += 10) check(marked(pool, words, key), "a key from before");
+    check(chromatic_save(pool, words, out, sizeof out) == sizeof saved && memcmp(out, saved, sizeof saved) == 0, "the bytes of before");
+    check(pool[3] == 1 && chromatic_report(pool, words, CHROMATIC_LEVEL) == 1, "the fourth word is L");
+    pool[3] = 0;
+    check(memcmp(pool, left, sizeof left) == 0, "the other words are those of before");
+    check(chromatic_audit(one_key, sizeof one_key / sizeof one_key[0]) == CHROMATIC_GOOD, "a pool of before with one key");
 }
 
 /* 7 slots hold 4 marks: three texts of a limit of 3, a fourth one's mark, and then there is no room. */
@@ -243,12 +271,13 @@ int main(void) {
         check(chromatic_report(pool, words, index) == figures[index], "report");
     over_a_restart(pool, words);
     excess_weight();
+    a_pool_of_before();
     send_limit();
     refused = chromatic_batch(pool, words, batch, sizeof batch - 1, answers, 0);
     check(CHROMATIC_CODE(refused) == CHROMATIC_BAD_COMMAND && CHROMATIC_NUMBER(refused) == 13, "bad command");
     refused = chromatic_batch(pool, words, batch, sizeof batch, answers, room - 1);
     check(refused == refused_with(CHROMATIC_FEW_ANSWERS), "few answers");
-    check(chromatic_interface_5() == CHROMATIC_INTERFACE, "the interface's number");
+    check(chromatic_interface_6() == CHROMATIC_INTERFACE, "the interface's number");
     check(chromatic_batch(pool, words, two_hundred, sizeof two_hundred, answers, room) == 0 && answers[0] == CHROMATIC_KEY_ABSENT, "200 in two bytes");
 
     check(chromatic_batch(pool, words, NOTHING, 0, NOTHING, 0) == 0, "an empty batch at NULL");

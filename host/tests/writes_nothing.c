@@ -1,6 +1,7 @@
 /* These calls write no pool word: searches, refused commands, a settle with nothing to do, a save, a clearing that finds no mark, and calls
  * refused whole, which write no answer word and no output byte either. The pool (and there the answers or the output) lie in a page that may only be read, and a write
- * would end the test by a signal. */
+ * would end the test by a signal. Of the header an accepted step writes the fourth word, L, alone, and that only where L moves: the words
+ * before it, or all four, lie in such a page. */
 #define _DEFAULT_SOURCE
 #include "../include/chromatic.h"
 #include <stdio.h>
@@ -77,11 +78,73 @@ static void sending(uint32_t *pool, size_t words, size_t page) {
     check(CHROMATIC_CODE(chromatic_clear_notice(pool, words - 1, 1)) == CHROMATIC_WRONG_LENGTH, "clear refused with 1");
     check(chromatic_clear_notice(pool, words, 2) == 0, "a notice without a mark is cleared");
     check(mprotect(pool, page, PROT_READ | PROT_WRITE) == 0, "the pool may be written");
-    pool[2] += 1;
-    check(mprotect(pool, page, PROT_READ) == 0, "the pool may only be read");
-    check(CHROMATIC_CODE(chromatic_may_send(pool, words, 1, 0, 1)) == CHROMATIC_RULES_BROKEN, "may send refused with 2");
-    check(CHROMATIC_CODE(chromatic_clear_notice(pool, words, 1)) == CHROMATIC_RULES_BROKEN, "clear refused with 2");
-    check(mprotect(pool, page, PROT_READ | PROT_WRITE) == 0, "the pool may be written");
+    for (size_t word = 2; word <= 3; word++) { /* N, then L */
+        pool[word] += 1;
+        check(mprotect(pool, page, PROT_READ) == 0, "the pool may only be read");
+        check(CHROMATIC_CODE(chromatic_may_send(pool, words, 1, 0, 1)) == CHROMATIC_RULES_BROKEN, "may send refused with 2");
+        check(CHROMATIC_CODE(chromatic_clear_notice(pool, words, 1)) == CHROMATIC_RULES_BROKEN, "clear refused with 2");
+        check(mprotect(pool, page, PROT_READ | PROT_WRITE) == 0, "the pool may be written");
+        pool[word] -= 1;
+    }
+}
+
+/* A saved set, a command on it, and L afterwards. */
+struct stepped {
+    uint8_t count, bytes[26], command_count, command[3];
+    uint32_t level;
+    const char *what;
+};
+
+/* The sets are loaded across `both`, two pages, so that the first `kept` words of the header are the last of the first page, which then may
+ * only be read. */
+static void stepping(const struct stepped *cases, size_t count, size_t kept, uint8_t *both, size_t page) {
+    /* A word has its alignment there: the page has it, and words before it have. */
+    uint32_t *pool = (uint32_t *)(void *)(both + page) - kept;
+
+    for (const struct stepped *a = cases; a < cases + count; a++) {
+        const size_t words = CHROMATIC_POOL_WORDS(a->bytes[0]);
+        uint32_t answer[CHROMATIC_ANSWER_WORDS] = {0};
+        check(mprotect(both, page, PROT_READ | PROT_WRITE) == 0, "the first page may be written");
+        check(chromatic_load(pool, words, a->bytes, a->count) == a->bytes[1], a->what);
+        check(mprotect(both, page, PROT_READ) == 0, "the first page may only be read");
+        check(chromatic_batch(pool, words, a->command, a->command_count, answer, CHROMATIC_ANSWER_WORDS) == 0, a->what);
+        check(answer[0] == CHROMATIC_GOOD && answer[1] > 0, a->what);
+        check(pool[3] == a->level && chromatic_report(pool, words, CHROMATIC_LEVEL) == a->level, a->what);
+    }
+}
+
+static void steps(size_t page) {
+    static const struct stepped keep[] = {
+        {16, {7, 7, 3, 30, 1, 20, 1, 10, 2, 10, 2, 20, 2, 30, 2, 40}, 3, {CHROMATIC_STEP, 1, 2}, 1, "kind 2 at the root"},
+        {16, {7, 7, 3, 10, 2, 10, 1, 20, 2, 20, 1, 30, 2, 30, 2, 40}, 3, {CHROMATIC_STEP, 1, 3}, 1, "kind 3 at the root"},
+        {16, {7, 7, 3, 30, 1, 10, 2, 10, 1, 20, 2, 20, 2, 30, 2, 40}, 3, {CHROMATIC_STEP, 1, 4}, 1, "kind 4 at the root"},
+        {16, {7, 7, 3, 10, 2, 10, 1, 30, 1, 20, 2, 20, 2, 30, 2, 40}, 3, {CHROMATIC_STEP, 1, 5}, 1, "kind 5 at the root"},
+        {20, {9, 9, 3, 10, 4, 10, 1, 30, 3, 20, 2, 20, 2, 30, 3, 40, 2, 40, 2, 50}, 3, {CHROMATIC_STEP, 1, 7}, 2, "kind 7 at the root"},
+        {20, {9, 9, 3, 40, 1, 20, 3, 10, 2, 10, 2, 20, 3, 30, 2, 30, 2, 40, 4, 50}, 3, {CHROMATIC_STEP, 1, 8}, 2, "kind 8 at the root"},
+        {24, {11, 11, 3, 50, 3, 30, 1, 20, 1, 10, 2, 10, 2, 20, 2, 30, 1, 40, 2, 40, 2, 50, 4, 60}, 3, {CHROMATIC_STEP, 2, 1}, 2, "kind 1 below the root"},
+        {12, {5, 5, 3, 20, 3, 10, 4, 10, 4, 20, 6, 30}, 3, {CHROMATIC_STEP, 2, 6}, 3, "kind 6 below the root"},
+        {16, {7, 7, 3, 10, 2, 10, 1, 20, 2, 20, 1, 30, 2, 30, 2, 40}, 2, {CHROMATIC_SETTLE, 9}, 1, "a settle by kind 3"},
+    }, move[] = {
+        {20, {9, 9, 3, 20, 1, 10, 2, 10, 2, 20, 1, 30, 2, 30, 1, 40, 2, 40, 2, 50}, 3, {CHROMATIC_STEP, 1, 1}, 2, "kind 1 at the root"},
+        {8, {3, 3, 3, 10, 18, 10, 18, 20}, 3, {CHROMATIC_STEP, 1, 6}, 8, "kind 6 at the root"},
+        {8, {3, 3, 3, 10, 18, 10, 18, 20}, 2, {CHROMATIC_SETTLE, 9}, 1, "a settle by kind 6"},
+    };
+    /* 01's P8: L is 255. */
+    const uint8_t tall[] = {9, 9, 3, 3, 1, 2, 1, 1, 0xFE, 3, 1, 0xFE, 3, 2, 0xFE, 3, 3, 1, 4, 0xFE, 3, 4, 0xFE, 3, 5}, raise[] = {CHROMATIC_STEP, 1, 1};
+    const size_t words = CHROMATIC_POOL_WORDS(9);
+    uint8_t *both = mmap(NULL, 2 * page, PROT_READ | PROT_WRITE, MAP_PRIVATE | MAP_ANONYMOUS, -1, 0);
+    uint32_t answer[CHROMATIC_ANSWER_WORDS] = {0}, *pool = (uint32_t *)(void *)both;
+
+    if (both == MAP_FAILED) {
+        check(0, "no pages");
+        return;
+    }
+    stepping(keep, sizeof keep / sizeof keep[0], 4, both, page);
+    stepping(move, sizeof move / sizeof move[0], 3, both, page);
+    check(mprotect(both, page, PROT_READ | PROT_WRITE) == 0, "the first page may be written");
+    check(chromatic_load(pool, words, tall, sizeof tall) == 9 && pool[3] == 255, "load of a tree with L = 255");
+    check(mprotect(both, page, PROT_READ) == 0, "the first page may only be read");
+    check(chromatic_batch(pool, words, raise, sizeof raise, answer, CHROMATIC_ANSWER_WORDS) == 0 && answer[0] == CHROMATIC_TOO_TALL, "refused with 11");
 }
 
 int main(void) {
@@ -100,6 +163,7 @@ int main(void) {
         printf("writes_nothing.c: no pages\n");
         return 1;
     }
+    steps(page);
     sending(pool, words, page);
     check(chromatic_prepare(pool, words) == CHROMATIC_GOOD, "prepare");
     check(chromatic_batch(pool, words, filling, sizeof filling, answers, room) == 0, "the pool is filled");
@@ -111,10 +175,15 @@ int main(void) {
     check(chromatic_batch(pool, words, asking, sizeof asking - 1, answers, room) == wrong_at(CHROMATIC_BAD_COMMAND, sizeof asking - 1), "refused with 3");
     check(CHROMATIC_CODE(chromatic_batch(pool, words, asking, sizeof asking, answers, room - 1)) == CHROMATIC_FEW_ANSWERS, "refused with 4");
     saving(pool, words, out, page);
-    pool[2] += 1;
+    for (size_t word = 2; word <= 3; word++) { /* N, then L */
+        pool[word] += 1;
+        check(mprotect(pool, page, PROT_READ) == 0, "the pool may only be read");
+        check(CHROMATIC_CODE(chromatic_batch(pool, words, asking, sizeof asking, answers, room)) == CHROMATIC_RULES_BROKEN, "refused with 2");
+        check(CHROMATIC_CODE(chromatic_save(pool, words, out, page)) == CHROMATIC_RULES_BROKEN, "save refused with 2");
+        check(mprotect(pool, page, PROT_READ | PROT_WRITE) == 0, "the pool may be written");
+        pool[word] -= 1;
+    }
     check(mprotect(pool, page, PROT_READ) == 0, "the pool may only be read");
-    check(CHROMATIC_CODE(chromatic_batch(pool, words, asking, sizeof asking, answers, room)) == CHROMATIC_RULES_BROKEN, "refused with 2");
-    check(CHROMATIC_CODE(chromatic_save(pool, words, out, page)) == CHROMATIC_RULES_BROKEN, "save refused with 2");
     check(chromatic_prepare(pool, words - 1) == CHROMATIC_WRONG_LENGTH, "prepare refused");
     return failed;
 }

@@ -23,8 +23,8 @@ unsafe fn lent_mut<'a, T>(pointer: *mut T, len: usize) -> &'a mut [T] {
 }
 
 #[no_mangle]
-pub extern "C" fn chromatic_interface_5() -> u32 {
-    5
+pub extern "C" fn chromatic_interface_6() -> u32 {
+    6
 }
 
 /// # Safety

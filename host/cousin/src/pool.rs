@@ -17,7 +17,7 @@ const WORDS: usize = 4;
 const ROOT: usize = 0;
 const FIRST_FREE: usize = 1;
 const NODES: usize = 2;
-const ZERO: usize = 3;
+const LEVEL: usize = 3;
 
 #[inline]
 pub fn at(slot: u32, part: usize) -> usize {
@@ -73,6 +73,15 @@ pub fn nodes(pool: &[u32]) -> u32 {
     pool[NODES]
 }
 
+/// "Keep L in the fourth header word": of a sound pool it is L.
+pub fn level(pool: &[u32]) -> u32 {
+    pool[LEVEL]
+}
+
+pub fn set_level(pool: &mut [u32], level: u32) {
+    pool[LEVEL] = level;
+}
+
 /// C, if the length is 4 + 4C with C from 1 to 1,023.
 pub fn slots(words: usize) -> Option<u32> {
     let c = words / WORDS;
@@ -97,14 +106,14 @@ pub fn prepare(pool: &mut [u32]) -> u32 {
         return code::WRONG_LENGTH;
     };
     free_from(pool, 1, c);
-    set_header(pool, 0, 0, c);
+    set_header(pool, 0, 0, 0, c);
     code::GOOD
 }
 
 /// Header of a tree in slots 1 to `nodes`, the rest of the C slots free.
-pub fn set_header(pool: &mut [u32], root: u32, nodes: u32, c: u32) {
+pub fn set_header(pool: &mut [u32], root: u32, nodes: u32, level: u32, c: u32) {
     let first_free = if nodes < c { nodes + 1 } else { 0 };
-    pool[..WORDS].copy_from_slice(&[root, first_free, nodes, 0]);
+    pool[..WORDS].copy_from_slice(&[root, first_free, nodes, level]);
 }
 
 /// Makes the slots from `first` on free, chained upwards.
@@ -142,17 +151,17 @@ pub fn audit(pool: &[u32]) -> u32 {
 /// tree, and a chain that ends after exactly C - N slots repeats none.
 fn sound(pool: &[u32], c: u32) -> bool {
     let n = nodes(pool);
-    n <= c && pool[ZERO] == 0 && tree_sound(pool, c, n) && free_chain_sound(pool, c, c - n)
+    n <= c && tree_sound(pool, c, n) && free_chain_sound(pool, c, c - n)
 }
 
 fn tree_sound(pool: &[u32], c: u32, n: u32) -> bool {
     let root = root(pool);
     if n == 0 || root == 0 {
-        return n == 0 && root == 0;
+        return n == 0 && root == 0 && level(pool) == 0;
     }
-    // A sound tree of C slots is at most (C + 1) / 2 deep.
+    // A sound tree of C slots is at most (C + 1) / 2 deep. The root's weight, 1, is in its sum and not in L.
     match walk(pool, root, 0, u32::MAX, c.div_ceil(2)) {
-        Some(tree) => tree.nodes == n && word(pool, root, WEIGHT) == 1 && tree.sum <= HEAVIEST + 1,
+        Some(tree) => tree.nodes == n && word(pool, root, WEIGHT) == 1 && tree.sum <= HEAVIEST + 1 && level(pool) == tree.sum - 1,
         None => false,
     }
 }
@@ -196,15 +205,4 @@ fn free_chain_sound(pool: &[u32], c: u32, count: u32) -> bool {
         slot = next;
     }
     slot == 0
-}
-
-/// L, by the weights on the way to the leftmost leaf.
-pub fn level(pool: &[u32]) -> u32 {
-    let mut slot = root(pool);
-    let mut sum = 0;
-    while slot != 0 && word(pool, slot, RIGHT) != 0 {
-        slot = word(pool, slot, LEFT);
-        sum += word(pool, slot, WEIGHT);
-    }
-    sum
 }

@@ -127,10 +127,11 @@ impl Reader<'_> {
     }
 }
 
-/// What a form begins with, and the place of its first node.
+/// What a form begins with, L, and the place of its first node.
 struct Header {
     c: u32,
     n: u32,
+    level: u32,
     tree: usize,
 }
 
@@ -142,6 +143,7 @@ fn check(saved: &[u8]) -> Option<Header> {
         return None;
     }
     let tree = reader.next;
+    let mut level = 0;
     if n > 0 {
         // "The root's is 1": the first number is 2 or 3.
         if !matches!(saved.get(tree), Some(2 | 3)) {
@@ -152,8 +154,9 @@ fn check(saved: &[u8]) -> Option<Header> {
         if left != 0 || sum > HEAVIEST + 1 {
             return None;
         }
+        level = sum - 1; // the root's weight is in the sum
     }
-    (reader.next == saved.len()).then_some(Header { c, n, tree })
+    (reader.next == saved.len()).then_some(Header { c, n, level, tree })
 }
 
 /// The byte at which bytes that no pool is written as go wrong: the first of C, N and "two numbers for each of N nodes" that
@@ -187,6 +190,6 @@ pub fn load(pool: &mut [u32], saved: &[u8]) -> u64 {
         Reader { saved, next: header.tree }.build(pool, 1);
     }
     free_from(pool, header.n + 1, c);
-    set_header(pool, u32::from(header.n > 0), header.n, c);
+    set_header(pool, u32::from(header.n > 0), header.n, header.level, c);
     u64::from(header.n)
 }

@@ -1,7 +1,7 @@
 //! The eight kinds, a step, the first allowed step, settle; on a sound pool.
 
 use crate::code;
-use crate::pool::{level, put, read, root, slots_of, word, Slot, HEAVIEST, KEY, LEFT, RIGHT, WEIGHT};
+use crate::pool::{level, put, read, root, set_level, slots_of, word, Slot, HEAVIEST, KEY, LEFT, RIGHT, WEIGHT};
 
 const KINDS: u32 = 8;
 
@@ -100,10 +100,12 @@ fn add_to_weight(pool: &mut [u32], slot: u32, by: i32) {
     put(pool, slot, WEIGHT, now.wrapping_add_signed(by));
 }
 
-/// "unless v is root"
+/// "unless v is root". There all ways to leaves change by what the children's edges do, and L with them.
 fn add_to_parent_edge(pool: &mut [u32], v: u32, by: i32) {
     if v != root(pool) {
         add_to_weight(pool, v, by);
+    } else {
+        set_level(pool, level(pool).wrapping_add_signed(-by));
     }
 }
 

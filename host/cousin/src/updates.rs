@@ -1,7 +1,9 @@
 //! Search, the next key, insert and delete on a sound pool.
 
 use crate::code;
-use crate::pool::{free_slots, give_slot, nodes, put, read, root, set_root, take_slot, word, write, Slot, KEY, LEFT, RIGHT, WEIGHT};
+use crate::pool::{
+    free_slots, give_slot, level, nodes, put, read, root, set_level, set_root, take_slot, word, write, Slot, KEY, LEFT, RIGHT, WEIGHT,
+};
 use crate::steps::Answer;
 
 /// Where search ends: the leaf and its parent, each 0 if there is none.
@@ -89,7 +91,12 @@ fn insert_beside(pool: &mut [u32], leaf: u32, key: u32) -> u32 {
     let router = old.key.min(key);
     write(pool, left, leaf_of(router));
     write(pool, right, leaf_of(old.key.max(key)));
-    let weight = if leaf == root(pool) { 1 } else { old.weight - 1 };
+    let weight = if leaf == root(pool) {
+        set_level(pool, 1);
+        1
+    } else {
+        old.weight - 1
+    };
     write(pool, leaf, Slot { key: router, left, right, weight });
     if router == key {
         left
@@ -116,7 +123,12 @@ fn delete_under(pool: &mut [u32], parent: u32, leaf: u32) {
     let above = read(pool, parent);
     let sibling = if above.left == leaf { above.right } else { above.left };
     let kept = read(pool, sibling);
-    let weight = if parent == root(pool) { 1 } else { above.weight + kept.weight };
+    let weight = if parent == root(pool) {
+        set_level(pool, level(pool) - kept.weight);
+        1
+    } else {
+        above.weight + kept.weight
+    };
     put(pool, parent, KEY, kept.key);
     put(pool, parent, LEFT, kept.left);
     put(pool, parent, RIGHT, kept.right);

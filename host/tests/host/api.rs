@@ -314,7 +314,7 @@ fn refused_calls() {
 fn too_tall() {
     let leaf = |key| [key, 0, 0, 255];
     let mut words =
-        [[1, 0, 9, 0], [3, 2, 3, 1], [2, 4, 7, 0], [4, 8, 9, 0], [1, 5, 6, 0], leaf(1), leaf(2), leaf(3), leaf(4), leaf(5)].concat();
+        [[1, 0, 9, 255], [3, 2, 3, 1], [2, 4, 7, 0], [4, 8, 9, 0], [1, 5, 6, 0], leaf(1), leaf(2), leaf(3), leaf(4), leaf(5)].concat();
     let mut pool = Pool::resume(&mut words[..]).unwrap();
     assert_eq!(pool.step(1, Kind::One), Ok(Stepped::TooTall));
     assert_eq!(pool.report().unwrap().settle_budget() as u64, pool.report().unwrap().bound);
@@ -479,8 +479,69 @@ fn raw_saves_and_loads() {
     assert_eq!([raw::save(&words[1..], &mut out), raw::load(&mut words[1..], &bytes)], [1 << 32; 2]);
     assert_eq!([raw::load(&mut words, &bytes[1..]), raw::load(&mut words, &[9, 0x80, 0x00])], [(13 << 32) + 15, (13 << 32) + 2]);
     assert_eq!([raw::save(&words, &mut out[..5]), raw::load(&mut words[4..], &bytes)], [14 << 32; 2]);
-    words[3] = 1;
+    words[3] = 0; // L is 1
     assert_eq!(raw::save(&words, &mut out), 2 << 32);
+}
+
+/// 01's P1 and P4 made here; the words that an archive of interface 5 left of them, whose fourth is 0; and the bytes that it saved.
+fn of_before() -> Result<[(Pool<Vec<u32>>, Vec<u32>, Vec<u8>); 2], Refused> {
+    let leaf = |key, weight| [key, 0, 0, weight];
+    let free = |next| [0, next, 0, u32::MAX];
+    let (p1_here, p1_saved) = p1();
+    let p1_left =
+        [[1, 8, 7, 0], [10, 2, 3, 1], leaf(10, 1), [20, 4, 5, 0], leaf(20, 1), [30, 6, 7, 0], leaf(30, 1), leaf(40, 1), free(9), free(0)];
+
+    let (mut p4_here, _) = p1();
+    assert_eq!(p4_here.step(1, Kind::Three)?, Stepped::Taken);
+    assert_eq!(newly(p4_here.insert(50)?), (50, 9));
+    assert_eq!(p4_here.step(1, Kind::One)?, Stepped::Taken);
+    assert_eq!(p4_here.delete(10)?, Deleted::Cleared { keys_left: 4 });
+    let p4_left =
+        [[1, 4, 7, 0], [20, 3, 5, 1], free(0), leaf(20, 2), free(2), [30, 6, 7, 1], leaf(30, 1), [40, 8, 9, 0], leaf(40, 1), leaf(50, 1)];
+    let p4_saved = vec![9, 7, 3, 20, 4, 20, 3, 30, 2, 30, 1, 40, 2, 40, 2, 50];
+    Ok([(p1_here, p1_left.concat(), p1_saved), (p4_here, p4_left.concat(), p4_saved)])
+}
+
+/// Saved with an archive of interface 5 and loaded with this one. Its words are refused and stay as they are, and the refusal says how
+/// they come over; its bytes load, and every key is there.
+#[test]
+fn a_pool_of_before_comes_over() -> Result<(), Refused> {
+    for (here, left, saved) in of_before()? {
+        assert_eq!((&here.words()[..3], &here.words()[4..]), (&left[..3], &left[4..]), "the fourth word alone is another");
+        assert_eq!(here.save(&mut [0; Pool::saved_bytes_for(9)])?, saved, "the same bytes");
+
+        let mut words = left.clone();
+        let refused = Pool::resume(&mut words[..]).map(drop).unwrap_err();
+        assert_eq!(refused, Refused::RulesBroken);
+        let said = refused.to_string();
+        assert!(said.contains("interface 5 or before") && said.contains("save it") && said.contains("load the bytes"), "{said}");
+        let mut out = [9; Pool::saved_bytes_for(9)];
+        assert_eq!([raw::batch(&mut words, &[1, 20], &mut [0; 2]), raw::save(&words, &mut out)], [2 << 32; 2]);
+        assert_eq!([raw::may_send(&mut words, 1, 0, 1), raw::clear_notice(&mut words, 1)], [2 << 32; 2]);
+        assert_eq!((&words, out), (&left, [9; Pool::saved_bytes_for(9)]));
+
+        let level = here.report()?.level;
+        let loaded = Pool::load(words, &saved)?.into_words();
+        assert_eq!((u64::from(loaded[3]), u64::from(here.words()[3])), (level, level), "the fourth word is L");
+        let mut pool = Pool::resume(loaded)?;
+        assert_eq!(pool.report()?, here.report()?);
+        let keys: Vec<u32> = left[4..].chunks(4).filter(|slot| slot[1] == 0 && slot[3] != u32::MAX).map(|leaf| leaf[0]).collect();
+        assert_eq!(pool.keys()?, keys.len() as u64);
+        for key in keys {
+            assert!(matches!(pool.search(key)?, Searched::Marked { .. }), "{key}");
+        }
+    }
+    Ok(())
+}
+
+/// With at most one key a pool of before is the same words as one made here.
+#[test]
+fn a_pool_of_before_with_one_key_is_taken_up() -> Result<(), Refused> {
+    let mut pool = Pool::prepare(vec![77; Pool::words_for(2)])?;
+    assert_eq!(Pool::resume(vec![0, 1, 0, 0, 0, 2, 0, u32::MAX, 0, 0, 0, u32::MAX])?.words(), pool.words());
+    insert_one(&mut pool, 10)?;
+    assert_eq!(Pool::resume(vec![1, 2, 1, 0, 10, 0, 0, 1, 0, 0, 0, u32::MAX])?.words(), pool.words());
+    Ok(())
 }
 
 /// The largest saved set: every number as long as it can be.
@@ -721,9 +782,9 @@ fn raw_texts() {
     let full = words.clone();
     assert_eq!([raw::may_send(&mut words, 65_535, 8191, 2), raw::may_send(&mut words, 65_535, 8191, 3)], [16 << 32, 7 << 32]);
     assert_eq!([raw::may_send(&mut words[1..], 65_535, 8191, 2), raw::clear_notice(&mut words[1..], 65_535)], [1 << 32; 2]);
-    words[3] = 1;
+    words[3] = 0; // L is 1
     assert_eq!([raw::may_send(&mut words, 65_535, 8191, 2), raw::clear_notice(&mut words, 65_535)], [2 << 32; 2]);
-    words[3] = 0;
+    words[3] = 1;
     assert_eq!(words, full);
     assert_eq!([raw::clear_notice(&mut words, 65_535), raw::clear_notice(&mut words, 65_535)], [2, 0]);
 }
@@ -889,7 +950,8 @@ fn errors_are_errors() {
     assert_eq!(said(no_kind().unwrap_err()), "9 is no kind of step: the kinds are 1 to 8");
     assert_eq!(
         Refused::RulesBroken.to_string(),
-        "refused with code 2: the pool breaks an audit rule; what it says of marks means nothing, send no text by it"
+        "refused with code 2: the pool breaks an audit rule; what it says of marks means nothing, send no text by it; if an archive of \
+         interface 5 or before left it, save it with one of interface 5 and load the bytes with this one"
     );
     assert_eq!(
         Refused::BadCommand { wrong_at: 40 }.to_string(),

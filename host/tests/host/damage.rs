@@ -164,7 +164,8 @@ fn lost_and_doubled_slots() {
     }
 }
 
-/// All leaves heavier or lighter by one: the sums stay equal, and what counts is L and that no leaf is red.
+/// All leaves heavier or lighter by one, and the fourth header word with them: the sums stay equal, and what counts is L and that no leaf
+/// is red. Without that word nothing is sound.
 #[test]
 fn all_leaves_off_by_one() {
     let mut rng = Rng::seeded("weights", 8300);
@@ -179,6 +180,8 @@ fn all_leaves_off_by_one() {
                 for (by, sound) in [(1, level < 255), (u32::MAX, !some_light)] {
                     let mut words = words.clone();
                     words[4..].chunks_mut(4).filter(|slot| is_leaf(slot)).for_each(|slot| slot[3] = slot[3].wrapping_add(by));
+                    assert_eq!(examine(&words, &bytes), 2, "{shape:?} {weights:?} {level} in the fourth word");
+                    words[3] = words[3].wrapping_add(by);
                     assert_eq!(examine(&words, &bytes) == 0, sound, "{shape:?} {weights:?} {level}");
                 }
             }

@@ -1,8 +1,8 @@
 //! Pools made to hurt: shared subtrees, cycles, deep chains; and saved bytes made so. The audit, save, load and may_send stay
-//! linear and the stack small.
+//! linear and the stack small, and kind 1 at the root walks to no leaf.
 
 use crate::pair::{library_batch, library_call, library_load, library_save, same_call, same_on};
-use crate::pools::{deepest, deepest_from, grown, Shape, Weights};
+use crate::pools::{deepest, deepest_from, grown, two_chains, Shape, Weights};
 use crate::rng::Rng;
 use crate::twin::{self, write_number, Call, Command, Parts, LIMITS, MOST_SLOTS};
 use chromatic::raw;
@@ -15,9 +15,10 @@ use std::time::{Duration, Instant};
 const SMALL_STACK: usize = 256 * 1024;
 const ROOMY_STACK: usize = 1024 * 1024;
 
-/// Words whose slots are all in one tangle: slot s is what `node` says, the root is slot 1, N is C.
+/// Words whose slots are all in one tangle: slot s is what `node` says, the root is slot 1, N is C. Leaves weigh 1 and the rest nothing,
+/// so that the fourth word stops no walk early.
 fn tangle(slots: usize, node: impl Fn(u32) -> [u32; 4]) -> Vec<u32> {
-    let mut words = vec![1, 0, slots as u32, 0];
+    let mut words = vec![1, 0, slots as u32, u32::from(slots > 1)];
     (1..=slots as u32).for_each(|s| words.extend(node(s)));
     words
 }
@@ -311,6 +312,25 @@ fn the_send_limit_costs_about_an_audit() {
         }
     });
     println!("measured ten audits, clearings of nothing and may_send that are all used: {times:.0?} ns at C = 1,023, in {rounds} rounds");
+    assert!(good(&times), "{times:?} in {rounds} rounds");
+}
+
+/// 02 (v): "Stop walking for L." Kind 1 at the root, refused with 11, asks for L, and kind 2 there, refused with 10, does not.
+#[test]
+fn kind_1_at_the_root_costs_about_any_refused_step() {
+    let mut pool = two_chains(MOST_SLOTS, 255).words();
+    let steps = |kind| Command::all(&[Command::Step(1, kind); 256]);
+    let (asking, other) = (steps(1), steps(2));
+    let mut answers = [0; 512];
+    let good = |&[asking, other]: &[f64; 2]| asking < 1.5 * other + 1000.0;
+    let (times, rounds) = least_times(good, |which| {
+        let (bytes, code) = if which == 0 { (&asking, 11) } else { (&other, 10) };
+        assert_eq!(library_batch(black_box(&mut pool), bytes, &mut answers), (0, 0));
+        assert_eq!(answers[510], code);
+    });
+    println!(
+        "measured 256 steps refused with 11 and with 10, 255 levels above the first leaf and the last: {times:.0?} ns, in {rounds} rounds"
+    );
     assert!(good(&times), "{times:?} in {rounds} rounds");
 }
 

@@ -172,7 +172,7 @@ fn the_words_after_two_yes() {
     sends_answer(&mut pair, (4411, 1), &[(2, (0, 1))]);
     assert_eq!(pair.words, [1, 2, 1, 0, 289_079_305, 0, 0, 1, 0, 3, 0, u32::MAX, 0, 4, 0, u32::MAX, 0, 0, 0, u32::MAX]);
     sends_answer(&mut pair, (4411, 1), &[(2, (0, 2)), (2, (16, 0)), (3, (7, 0))]);
-    let two = [1, 4, 3, 0, 289_079_305, 2, 3, 1, 289_079_305, 0, 0, 1, 289_079_306, 0, 0, 1, 0, 0, 0, u32::MAX];
+    let two = [1, 4, 3, 1, 289_079_305, 2, 3, 1, 289_079_305, 0, 0, 1, 289_079_306, 0, 0, 1, 0, 0, 0, u32::MAX];
     assert_eq!(pair.words, two);
     // The leaf's slot is freed first, then the sibling's: of the first mark slots 2 and 3, of the last slot 1.
     assert_eq!(pair.call(clear(4411)), (0, 2));
@@ -273,7 +273,8 @@ impl Causes {
         let mut words = grown(rng, slots, &keys, 2, shape, weights).words();
         if self.damage {
             let root = 4 * words[0] as usize;
-            let (at, value) = rng.pick(&[(2, words[2] - 1), (3, 1), (0, 0), (1, words[0]), (root + 3, 2), (root + 3, 0), (root + 2, 0)]);
+            let (at, value) =
+                rng.pick(&[(2, words[2] - 1), (3, 1), (3, 0), (0, 0), (1, words[0]), (root + 3, 2), (root + 3, 0), (root + 2, 0)]);
             words[at] = value;
         }
         if self.length {

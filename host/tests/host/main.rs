@@ -8,6 +8,7 @@ mod causes;
 mod damage;
 mod hurtful;
 mod ledger;
+mod level;
 mod pair;
 mod places;
 mod pools;

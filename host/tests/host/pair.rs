@@ -87,6 +87,30 @@ pub fn overweight(words: &[u32]) -> (u64, u64) {
     (heavy.len() as u64, heavy.iter().map(|weight| weight - 1).sum())
 }
 
+/// Read straight off a sound pool's words: for each leaf the sum of the weights on the way to it, the root's left out.
+fn sums(words: &[u32]) -> Vec<u32> {
+    let mut sums = vec![];
+    let mut ahead = vec![(words[0], 0)];
+    while let Some((slot, sum)) = ahead.pop().filter(|&(slot, _)| slot != 0) {
+        let children = [1, 2].map(|side| words[4 * slot as usize + side]);
+        if children == [0, 0] {
+            sums.push(sum);
+        } else {
+            ahead.extend(children.map(|child| (child, sum + words[4 * child as usize + 3])));
+        }
+    }
+    sums
+}
+
+/// Of a sound pool: the fourth word is the sum to every leaf, 0 where there is none, and the report's second number.
+pub fn assert_level(words: &[u32]) {
+    let sums = sums(words);
+    let level = sums.first().copied().unwrap_or(0);
+    assert!(sums.iter().all(|&sum| sum == level), "the sums to the leaves of {words:?}: {sums:?}");
+    assert_eq!(words[3], level, "the fourth word of {words:?}");
+    assert_eq!(raw::report(words, 2), level.into(), "the report's second number of {words:?}");
+}
+
 /// The batch by both on copies of the words, with room for some answer words; every word afterwards. What was answered.
 pub fn same_batch(words: &[u32], bytes: &[u8], room: usize) -> Answer {
     let untouched: Vec<u32> = (0..room as u32).map(|i| UNTOUCHED + i).collect();
@@ -214,6 +238,10 @@ impl Pair {
         pair
     }
 
+    pub fn header(&self) -> [u32; 4] {
+        self.slot(0)
+    }
+
     pub fn slot(&self, slot: usize) -> [u32; 4] {
         self.words[4 * slot..4 * slot + 4].try_into().unwrap()
     }
@@ -222,11 +250,12 @@ impl Pair {
         std::array::from_fn(|i| raw::report(&self.words, i as u32 + 1))
     }
 
-    /// The words are the twin's, and pass both audits.
+    /// The words are the twin's, and pass both audits; and the fourth is L, as it is counted here.
     fn audit(&self) {
         assert_eq!(self.words, self.twin.words(), "pool");
         assert_eq!(raw::audit(&self.words), 0, "audit of {:?}", self.words);
         assert_eq!(twin::audit(&self.words), 0, "the twin's audit of {:?}", self.words);
+        assert_level(&self.words);
     }
 
     /// All that can be asked, the third number also off the words, and that the twin reads back its own set.

@@ -113,7 +113,7 @@ fn good_commands(count: usize) -> [Vec<u8>; 2] {
 fn each_cause_of_code_3_has_its_place() {
     let words = after_p1();
     let mut broken = words.clone();
-    broken[3] = 1;
+    broken[3] = 0; // L is 1
     let bad = bad_commands();
     for (name, at, command) in &bad {
         for before in [0, 1, 2, 255].into_iter().flat_map(good_commands) {

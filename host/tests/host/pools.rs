@@ -102,6 +102,19 @@ pub fn some_keys(rng: &mut Rng, count: usize, highest: u32) -> Vec<u32> {
     keys.into_iter().collect()
 }
 
+/// The most keys that fit, half of them in a chain to the left and half in one to the right, every inner edge red: far to the first leaf
+/// and to the last. The root is slot 1.
+pub fn two_chains(slots: usize, level: u32) -> Set {
+    let keys: Vec<u32> = (0..).take(slots.div_ceil(2)).collect();
+    let (low, high) = keys.split_at(keys.len() / 2);
+    let mut rng = Rng::seeded("two chains", 1);
+    let mut bed = Seedbed { rng: &mut rng, slots: (2..=slots as u32).rev().collect(), shape: Shape::ChainLeft, weights: Weights::Red };
+    let left = bed.edge(low, level);
+    bed.shape = Shape::ChainRight;
+    let right = bed.edge(high, level);
+    Set { slots, tree: Some(edge(1, inner(1, low[low.len() - 1], left, right))), free: bed.slots }
+}
+
 /// A chain of the most keys that fit, every inner edge red: as deep as a sound tree gets.
 pub fn deepest(slots: usize, shape: Shape) -> Set {
     deepest_from(0, slots, shape)

@@ -28,7 +28,7 @@ pub fn seeds(first: u64, usual: u64) -> RangeInclusive<u64> {
 }
 
 /// Runs `once` for seeds from `first` on, and says how much was compared.
-fn compared(test: &str, first: u64, usual: u64, mut once: impl FnMut(&mut Rng, &mut Seen)) -> Seen {
+pub fn compared(test: &str, first: u64, usual: u64, mut once: impl FnMut(&mut Rng, &mut Seen)) -> Seen {
     let begun = Instant::now();
     let mut seen = Seen::default();
     let seeds = seeds(first, usual);
@@ -79,11 +79,11 @@ fn some_inner_slot(rng: &mut Rng, set: &Set) -> u32 {
 }
 
 /// How likely each operation is: search, insert, delete, step, settle.
-type Mix = [usize; 5];
-const MIXES: [Mix; 7] =
+pub type Mix = [usize; 5];
+pub const MIXES: [Mix; 7] =
     [[1, 1, 1, 1, 1], [1, 4, 1, 2, 0], [1, 1, 4, 2, 0], [0, 3, 2, 0, 1], [0, 1, 1, 8, 0], [1, 0, 0, 1, 1], [0, 4, 3, 0, 0]];
 
-fn command(rng: &mut Rng, set: &Set, mix: &Mix, span: u32) -> Command {
+pub fn command(rng: &mut Rng, set: &Set, mix: &Mix, span: u32) -> Command {
     let mut ticket = rng.below(mix.iter().sum());
     let operation = mix.iter().position(|&share| {
         let mine = ticket < share;
@@ -113,7 +113,7 @@ fn run_singly(rng: &mut Rng, pair: &mut Pair, count: usize, span: u32, seen: &mu
     pair.look();
 }
 
-const SMALL: [usize; 12] = [1, 2, 3, 4, 7, 9, 16, 31, 31, 63, 63, 127];
+pub const SMALL: [usize; 12] = [1, 2, 3, 4, 7, 9, 16, 31, 31, 63, 63, 127];
 
 #[test]
 fn small_pools_one_command_at_a_time() {

@@ -2,7 +2,7 @@
 
 use crate::causes::{cause, CAUSES};
 use crate::damage;
-use crate::pair::{by_code, library_batch, same_load, same_on, same_save};
+use crate::pair::{assert_level, by_code, library_batch, same_load, same_on, same_save};
 use crate::pools::{deepest, grown, some_keys, Shape, Weights, SHAPES, WEIGHTS};
 use crate::random::{seeds, share};
 use crate::rng::Rng;
@@ -144,6 +144,8 @@ fn restart(words: &[u32], rng: &mut Rng, seen: &mut Seen) -> Vec<u8> {
     assert_eq!(nodes, walked(words).1, "the tree of {saved:02X?}");
     assert_eq!(numbers, (1..=n).collect::<Vec<u32>>(), "slots of {saved:02X?}");
     assert_eq!(chain(&after), (n + 1..=slots as u32).collect::<Vec<u32>>(), "free slots after {saved:02X?}");
+    assert_eq!(after[3], words[3], "L after {saved:02X?}");
+    assert_level(&after);
     assert_eq!(same_on(&after), 0);
     assert_eq!(seen.save(&after, count), ((0, count as u32), saved.clone()), "saved again");
     assert_eq!(seen.save(&renumbered(rng, &set).words(), count).1, saved, "saved from other slots");

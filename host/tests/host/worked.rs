@@ -9,7 +9,7 @@ use Command::{Delete, Insert, Search, Settle, Step};
 const NINE: usize = 9;
 
 /// P1's four inserts into so many slots.
-fn after_p1(slots: usize) -> Pair {
+pub fn after_p1(slots: usize) -> Pair {
     let mut pair = Pair::prepared(slots);
     assert_eq!(pair.insert_all(&[10, 20, 30, 40]), [(0, 1), (0, 3), (0, 5), (0, 7)]);
     pair
@@ -104,7 +104,7 @@ fn p7_empty_pool() {
 }
 
 /// "nine nodes, root with red c and d, c with red e", every leaf of one weight.
-fn p8(weight: u32) -> Pair {
+pub fn p8(weight: u32) -> Pair {
     let heavy = |slot, key| edge(weight, leaf(slot, key));
     let e = edge(0, inner(4, 1, heavy(5, 1), heavy(6, 2)));
     let c = edge(0, inner(2, 2, e, heavy(7, 3)));
@@ -185,7 +185,7 @@ fn kind_5_mirrors_kind_4() {
 }
 
 /// A red child u beside an overweighted t, in a tree of five leaves at level 2: kind 7 at slot 1, its mirror 8.
-fn heavy_beside_red(mirrored: bool, under: Option<u32>) -> Pair {
+pub fn heavy_beside_red(mirrored: bool, under: Option<u32>) -> Pair {
     let one = |slot, key| edge(1, leaf(slot, key));
     let black = |slot, router, l: Edge, r: Edge| edge(1, inner(slot, router, l, r));
     let v = if mirrored {
@@ -235,7 +235,7 @@ fn no_rotation_under_a_red_v() {
 }
 
 /// Root 1 over v in slot 2 (weight p), v over red u in slot 3, u over red t in slot 4.
-fn rotation_case(u_on_left: bool, t_on_left: bool, p: u32) -> Pair {
+pub fn rotation_case(u_on_left: bool, t_on_left: bool, p: u32) -> Pair {
     let one = |slot| edge(1, leaf(slot, 0));
     let beside = |on_left, slot, child, other| if on_left { inner(slot, 0, child, other) } else { inner(slot, 0, other, child) };
     let t = edge(0, inner(4, 0, one(5), one(6)));
@@ -300,7 +300,7 @@ fn lengths() {
 fn order_of_refusals() {
     let good = after_p1(NINE).words;
     let mut broken = good.clone();
-    broken[3] = 1;
+    broken[3] = 0; // L is 1
     let short = &broken[..39];
     let bad_command = [2, 77, 1, 10, 6];
     for (words, bytes, room, want) in [
@@ -361,9 +361,18 @@ fn saved_forms() {
     let mut one = Pair::prepared(1);
     one.insert_all(&[u32::MAX]);
     assert_eq!(saved(&one, 8), [0x01, 0x01, 0x02, 0xFF, 0xFF, 0xFF, 0xFF, 0x0F]);
+    // They are as they were before 02 (v): L is in the words that they are read back as, and in no byte.
+    for (form, header) in [
+        (&p1[..], [1, 8, 7, 1]), (&p2, [1, 8, 7, 1]), (&p3, [1, 0, 9, 2]), (&p4, [1, 8, 7, 2]), (&p8_255, [1, 0, 9, 255]),
+        (&[0x09, 0x00], [0, 1, 0, 0]), (&[0x09, 0x01, 0x02, 0x0A], [1, 2, 1, 0]),
+    ] {
+        let (answer, words) = same_load(&[0xDEAD_BEEF; 40], form);
+        assert_eq!((answer, &words[..4]), ((0, header[2]), &header[..]));
+        assert_eq!(same_save(&words, form.len()).1, form);
+    }
 }
 
-/// P4's slots are 1, 3, 5, 6, 7, 8 and 9 before and 1 to 7 after, and the chain 4, 2 becomes 8, 9.
+/// P4's slots are 1, 3, 5, 6, 7, 8 and 9 before and 1 to 7 after, and the chain 4, 2 becomes 8, 9. L is 2 before and after.
 #[test]
 fn p4_over_a_restart() {
     let before = after_p4();
@@ -371,7 +380,7 @@ fn p4_over_a_restart() {
     let ((code, n), after) = same_load(&[0xDEAD_BEEF; 40], &saved(&before, 16));
     assert_eq!((code, n), (0, 7));
     let slots = [
-        [1, 8, 7, 0],
+        [1, 8, 7, 2],
         [20, 2, 3, 1],
         [20, 0, 0, 2],
         [30, 4, 5, 1],
@@ -393,7 +402,7 @@ fn p4_over_a_restart() {
 fn order_of_refusals_of_save() {
     let good = after_p1(NINE).words;
     let mut broken = good.clone();
-    broken[3] = 1;
+    broken[3] = 0; // L is 1
     for (words, room, want) in [
         (&broken[..39], 0, (1, 0)),
         (&broken[..39], 16, (1, 0)),
@@ -447,14 +456,14 @@ fn complete(first: u32, levels: u32) -> Edge {
 }
 
 /// The root in slot 1 over both, and no slot free.
-fn below_the_root(left: Edge, right: Edge) -> Pair {
+pub fn below_the_root(left: Edge, right: Edge) -> Pair {
     let mut tree = edge(1, inner(1, 0, left, right));
     let mut keys = 0;
     number_keys(&mut tree, &mut keys);
     Pair::holding(Set { slots: 2 * keys as usize - 1, tree: Some(tree), free: vec![] })
 }
 
-fn two_leaves(weight: u32) -> Pair {
+pub fn two_leaves(weight: u32) -> Pair {
     below_the_root(edge(weight, leaf(2, 0)), edge(weight, leaf(3, 0)))
 }
 

@@ -48,14 +48,14 @@ impl<'a> Look<'a> {
     fn at(words: &'a [u32], c: usize) -> Option<Look<'a>> {
         let mut look = Look { words, c, tree: vec![], chain: vec![] };
         let mut marked = vec![false; c + 1];
-        let kept = words[3] == 0
-            && look.mark_tree(&mut marked)
+        let kept = look.mark_tree(&mut marked)
             && look.mark_chain(&mut marked)
             && marked[1..].iter().all(|&m| m)
             && words[2] as usize == look.tree.len()
             && look.order()
             && look.weights()
-            && look.sums();
+            // 02 (v), of the fourth header word: "The audit checks it against the weights".
+            && look.sums() == Some(u64::from(words[3]));
         kept.then_some(look)
     }
 
@@ -132,8 +132,8 @@ impl<'a> Look<'a> {
     }
 
     /// "From root to leaf the weights, root's left out, add up to the same number L for every leaf, and L is at most
-    /// 255."
-    fn sums(&self) -> bool {
+    /// 255. L is 0 for an empty tree or one leaf."
+    fn sums(&self) -> Option<u64> {
         let mut sum = vec![0u64; self.c + 1];
         let mut levels = vec![];
         for &slot in &self.tree {
@@ -146,6 +146,7 @@ impl<'a> Look<'a> {
                 sum[child] = sum[slot] + u64::from(self.slot(child)[3]);
             }
         }
-        levels.iter().all(|&l| l == levels[0] && l <= 255)
+        let l = levels.first().copied().unwrap_or(0);
+        (l <= 255 && levels.iter().all(|&level| level == l)).then_some(l)
     }
 }

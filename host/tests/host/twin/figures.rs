@@ -12,12 +12,12 @@ struct Sums {
 
 impl Set {
     /// L: down the right side, for a change. (The audit compares all leaves.)
-    pub fn level(&self) -> u32 {
+    pub fn level(&self) -> u64 {
         let mut level = 0;
         let mut at = self.tree.as_ref().map(|e| &e.to);
         while let Some(node) = at {
             let right = node.edges().get(1);
-            level += right.map_or(0, |e| e.weight);
+            level += right.map_or(0, |e| u64::from(e.weight));
             at = right.map(|e| &e.to);
         }
         level
@@ -33,7 +33,7 @@ impl Set {
         let excess = self.tree.as_ref().map_or(0, excess_weight);
         let Sums { conflicts: r, red_distance: q, over_distance: d } = sums;
         let bound = u128::from(3 * n + 1) * u128::from(d) + u128::from(2 * n * r + q);
-        [n, u64::from(self.level()), excess, r, d, q, u64::try_from(bound).expect("a bound of 64 bits")]
+        [n, self.level(), excess, r, d, q, u64::try_from(bound).expect("a bound of 64 bits")]
     }
 }
 

@@ -200,6 +200,8 @@ impl Set {
         let mut words = vec![0; 4 + 4 * self.slots];
         words[0] = self.tree.as_ref().map_or(0, |e| e.to.slot);
         words[2] = self.nodes();
+        // 02 (v): "Keep L in the fourth header word". Only bytes that were never saved have an L that is no word.
+        words[3] = u32::try_from(self.level()).unwrap_or(u32::MAX);
         if let Some(tree) = &self.tree {
             write_edge(tree, &mut words);
         }
