@@ -11,10 +11,9 @@ use borrow.Author.Tests.{not-true, not-false}
 use Rattle.tree.specs.declared.Refusal.{Refusal}
 use Rattle.tree.specs.declared.Refusal.the-variants.{PoolLength, RulesBroken, BadCommand, FewAnswers}
 use Rattle.tree.specs.Codes.{code, numberBeside}
-use Rattle.tree.specs.State.{levelTop}
 use Rattle.format.specs.declared.Header.{Header}
 use Rattle.format.specs.Words.{headerOf, lengthGood}
-use Rattle.format.specs.Audit.{stateOf, auditCode}
+use Rattle.format.specs.Audit.{auditCode}
 use Rattle.format.proofs.AuditCases.{Kept, code-broken}
 use Rattle.encoding.specs.Batch.{mostCommands, readBatch, called, refused, batch}
 use Rattle.encoding.proofs.Endings.{length-ends, bad-ends, few-ends, broken-ends, ran-ends}
@@ -43,7 +42,7 @@ module _ (bytes : List ℕ) (found : Scanned) (scan : found ≡ scanned (readBat
   finds-bad p out good i e = bad-ends p bytes out good (scanned-bad (readBatch bytes) (sym scan ∙ e))
 
   -- nothing refuses the call
-  module _ (p out : List ℕ) (n : ℕ) (e : found ≡ Commands n) (enough : 2 * n ≤ length out) (k : Kept p (headerOf p) (levelTop ((stateOf p) .top))) where
+  module _ (p out : List ℕ) (n : ℕ) (e : found ≡ Commands n) (enough : 2 * n ≤ length out) (k : Kept p (headerOf p)) where
     pub finds-ready : {h : Header} → h ≡ headerOf p → Ready p h bytes out
     finds-ready read =
         let x = scanned-commands (readBatch bytes) (sym scan ∙ e) in

@@ -9,7 +9,7 @@ use lib.ListN.{length, take, drop}
 use Rattle.tree.specs.declared.Answer.{Answer}
 use Rattle.tree.specs.declared.Answer.the-variants.{Done}
 use Rattle.tree.specs.Codes.{codeOf, numberOf}
-use Rattle.tree.specs.State.{nodes, levelTop, Sound}
+use Rattle.tree.specs.State.{nodes, Sound}
 use Rattle.tree.proofs.SoundStates.{sound-total}
 use Rattle.format.specs.Words.{headerOf, slotsIn, lengthGood, wordsOf}
 use Rattle.format.specs.Audit.{stateOf, auditCode}
@@ -81,7 +81,7 @@ restart-returned p out w words passes room long same = record {
   same-again = λ room. ap (λ (c : Call). saveCall (c .left) room) loaded ∙ save-again p words (K .length-good) (K .rules-hold) room;
 }
   where
-    K : Kept p (headerOf p) (levelTop ((stateOf p) .top))
+    K : Kept p (headerOf p)
     K = code-kept p words passes
 
     sound : Sound (stateOf p)

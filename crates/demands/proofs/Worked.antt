@@ -8,13 +8,13 @@ use lib.Dec.{eqb, leb, ltb}
 use lib.ListN.{length, getD, set}
 use Prim.Native.Nat.{ℕ}
 use Rattle.tree.specs.Codes.{codeOf, numberOf}
-use Rattle.tree.specs.Tree.{one, countIn, keys, slotOf}
+use Rattle.tree.specs.Tree.{one, countIn, keys, slotOf, level}
 use Rattle.tree.specs.Updates.{newSlot}
 use Rattle.tree.specs.State.{upwards, prepared, keysOf, slotsNeeded, nodes, levelTop}
-use Rattle.format.specs.Words.{header, slot, freeSlot, headerOf, putHeader, slotAt, putSlot, slotsIn, lengthGood, inTree, inChain, inTop, rootOf, shownSlot, spareOf, shownHeader, slotsFrom, wordsOf}
-use Rattle.format.specs.Audit.{isSlot, follow, chain, chainEnds, treeFound, chainFound, slotsOf, bare, all, allFrom, same, rule-once, freeWords, rule-free, children, rule-children, leafKeys, routed, rule-order, wellWeighed, rootWeighed, rule-weights, sumsOf, rootSums, rule-sums, rule-spare, rules, allTrue, rulesUnder, foundWeight, treeOf, topOf, stateUnder, audited}
+use Rattle.format.specs.Words.{header, slot, freeSlot, headerOf, putHeader, slotAt, putSlot, slotsIn, lengthGood, inTree, inChain, inTop, rootOf, shownSlot, shownHeader, slotsFrom, wordsOf}
+use Rattle.format.specs.Audit.{isSlot, follow, chain, chainEnds, treeFound, chainFound, slotsOf, bare, all, allFrom, same, rule-once, freeWords, rule-free, children, rule-children, leafKeys, routed, rule-order, wellWeighed, rootWeighed, rule-weights, sumsOf, rootSums, rule-sums, rule-level, rules, allTrue, rulesUnder, foundWeight, treeOf, topOf, stateUnder, audited}
 use Rattle.format.proofs.Rows.{pool, Row, row, allGiven, allSaid}
-use Rattle.updates.specs.Updating.{toward, descend, wayTo, taken, freed, freedWords, weightUnder, insertRoot, split, insertBeside, insertAtLeaf, insertUnder, insertWords, deleteRoot, siblingOf, joined, deleteBelow, deleteLeaf, deleteAtLeaf, deleteUnder, deleteWords}
+use Rattle.updates.specs.Updating.{toward, descend, wayTo, taken, freed, freedWords, byRoot, insertRoot, split, insertBeside, insertAtLeaf, insertUnder, insertWords, deleteRoot, siblingOf, joined, deleteBelow, deleteLeaf, deleteAtLeaf, deleteUnder, deleteWords}
 use Rattle.set.specs.Inside.{member, room, needed, auditAnswer}
 use Rattle.ledger.specs.Ledger.{noticeGood, argumentsGood, markKey, unless, rangeAnswer, judged, lowestFrom, usedAnswer, roomAnswer, marked, asked, maySend, clearedAt, clearedFrom}
 
@@ -33,17 +33,17 @@ abbrev w1 : List ℕ
 w1 = pool (header 1 2 1 0) (slot k1 0 0 1 ∷ freeSlot 3 ∷ freeSlot 4 ∷ freeSlot 5 ∷ freeSlot 0 ∷ [])
 
 abbrev w2 : List ℕ
-w2 = pool (header 1 4 3 0) (slot k1 2 3 1 ∷ slot k1 0 0 1 ∷ slot k2 0 0 1 ∷ freeSlot 5 ∷ freeSlot 0 ∷ [])
+w2 = pool (header 1 4 3 1) (slot k1 2 3 1 ∷ slot k1 0 0 1 ∷ slot k2 0 0 1 ∷ freeSlot 5 ∷ freeSlot 0 ∷ [])
 
 abbrev w3 : List ℕ
-w3 = pool (header 1 0 5 0) (slot k1 2 3 1 ∷ slot k1 0 0 1 ∷ slot k2 4 5 0 ∷ slot k2 0 0 1 ∷ slot k3 0 0 1 ∷ [])
+w3 = pool (header 1 0 5 1) (slot k1 2 3 1 ∷ slot k1 0 0 1 ∷ slot k2 4 5 0 ∷ slot k2 0 0 1 ∷ slot k3 0 0 1 ∷ [])
 
 -- the gap at attempt 1, and that gap filled; the words of the third with a wrong N
 abbrev w4 : List ℕ
 w4 = deleteWords w3 k1
 
 abbrev broken : List ℕ
-broken = pool (header 1 0 3 0) (slot k1 2 3 1 ∷ slot k1 0 0 1 ∷ slot k2 4 5 0 ∷ slot k2 0 0 1 ∷ slot k3 0 0 1 ∷ [])
+broken = pool (header 1 0 3 1) (slot k1 2 3 1 ∷ slot k1 0 0 1 ∷ slot k2 4 5 0 ∷ slot k2 0 0 1 ∷ slot k3 0 0 1 ∷ [])
 
 abbrev says : List ℕ → (n r l : ℕ) → List ℕ
 says p n r l = codeOf ((maySend p n r l) .answer) ∷ numberOf ((maySend p n r l) .answer) ∷ (maySend p n r l) .left
@@ -68,5 +68,5 @@ cases =
     ∷ []
 
 pub sends-worked : allGiven cases ≡ allSaid cases
-unfolding cases allGiven allSaid one countIn keys slotOf newSlot upwards prepared keysOf slotsNeeded nodes levelTop headerOf putHeader slotAt putSlot slotsIn lengthGood inTree inChain inTop rootOf shownSlot spareOf shownHeader slotsFrom wordsOf isSlot follow chain chainEnds treeFound chainFound slotsOf bare all allFrom same rule-once freeWords rule-free children rule-children leafKeys routed rule-order wellWeighed rootWeighed rule-weights sumsOf rootSums rule-sums rule-spare rules allTrue rulesUnder foundWeight treeOf topOf stateUnder audited toward descend wayTo taken freed freedWords weightUnder insertRoot split insertBeside insertAtLeaf insertUnder insertWords deleteRoot siblingOf joined deleteBelow deleteLeaf deleteAtLeaf deleteUnder deleteWords member room needed auditAnswer noticeGood argumentsGood markKey unless rangeAnswer judged lowestFrom usedAnswer roomAnswer marked asked maySend clearedAt clearedFrom
+unfolding cases allGiven allSaid one countIn keys slotOf newSlot upwards prepared keysOf slotsNeeded nodes levelTop level headerOf putHeader slotAt putSlot slotsIn lengthGood inTree inChain inTop rootOf shownSlot shownHeader slotsFrom wordsOf isSlot follow chain chainEnds treeFound chainFound slotsOf bare all allFrom same rule-once freeWords rule-free children rule-children leafKeys routed rule-order wellWeighed rootWeighed rule-weights sumsOf rootSums rule-sums rule-level rules allTrue rulesUnder foundWeight treeOf topOf stateUnder audited toward descend wayTo taken freed freedWords byRoot insertRoot split insertBeside insertAtLeaf insertUnder insertWords deleteRoot siblingOf joined deleteBelow deleteLeaf deleteAtLeaf deleteUnder deleteWords member room needed auditAnswer noticeGood argumentsGood markKey unless rangeAnswer judged lowestFrom usedAnswer roomAnswer marked asked maySend clearedAt clearedFrom
 sends-worked = refl

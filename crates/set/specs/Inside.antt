@@ -46,7 +46,7 @@ needed p = slotsNeeded ((stateOf p) .top)
 abbrev pub auditedAnswer : Audited → Answer
 auditedAnswer Length = Refused PoolLength
 auditedAnswer Broken = Refused RulesBroken
-auditedAnswer (Passed h l) = Done 0
+auditedAnswer (Passed h) = Done 0
 
 unfoldable pub auditAnswer : List ℕ → Answer
 auditAnswer p = auditedAnswer (audited p)

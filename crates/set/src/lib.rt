@@ -19,6 +19,6 @@ pub fn audit_answer(pool: &[u32]) -> Answer
     match found {
         Audited::Length => Answer::Refused(Refusal::PoolLength),
         Audited::Broken => Answer::Refused(Refusal::RulesBroken),
-        Audited::Passed(_, _) => Answer::Done(0),
+        Audited::Passed(_) => Answer::Done(0),
     }
 }
