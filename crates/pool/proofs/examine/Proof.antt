@@ -97,7 +97,7 @@ returns-6 c =
     let w = c .before .before .before .before .rest .given .0 in
     let read = c .before .before .before .before .before .before .before .before .before .before .before .before .before .get-header .ensures in
     let tree = rw (c .before .before .before .before .rest .given .1, read, c .before .before .before .before .before .before .before .allowance .ensures) at (c .before .before .before .before .before .before .walk-top .ensures) in
-    told (k .before .before .before .before .before .before .before) (whole k ∙ (ap (counted _) (sym tree) ∙ counted-level (headerOf (k .before .before .before .before .before .before .before .before .before .before .args .pool .now)) (w .0) (w .1 .0) (rw read at (c .if5 .taken))))
+    told (k .before .before .before .before .before .before .before) (whole k ∙ (ap (counted _) (sym tree) ∙ counted-level (headerOf (k .before .before .before .before .before .before .before .before .before .before .args .pool .now)) (w .0) (w .1 .0) (omega (arith, rw read at (c .if5 .taken)))))
 
 returns-7 : tie.Need-returns-7
 returns-7 c =
@@ -105,7 +105,7 @@ returns-7 c =
     let w = c .before .before .before .before .rest .given .0 in
     let read = c .before .before .before .before .before .before .before .before .before .before .before .before .before .get-header .ensures in
     let tree = rw (c .before .before .before .before .rest .given .1, read, c .before .before .before .before .before .before .before .allowance .ensures) at (c .before .before .before .before .before .before .walk-top .ensures) in
-    told (k .before .before .before .before .before .before .before) (whole k ∙ (ap (counted _) (sym tree) ∙ counted-all (headerOf (k .before .before .before .before .before .before .before .before .before .before .args .pool .now)) (w .0) (w .1 .0) read (c .before .before .if4 .left) (rw read at (c .if5 .left))))
+    told (k .before .before .before .before .before .before .before) (whole k ∙ (ap (counted _) (sym tree) ∙ counted-all (headerOf (k .before .before .before .before .before .before .before .before .before .before .args .pool .now)) (w .0) (w .1 .0) read (c .before .before .if4 .left) (omega (arith, rw read at (c .if5 .left)))))
 
 pub examine-spec : {M : Type 1} → statement M
 examine-spec =
