@@ -329,7 +329,7 @@ fn kind_1_at_the_root_costs_about_any_refused_step() {
         assert_eq!(answers[510], code);
     });
     println!(
-        "measured 256 steps refused with 11 and with 10, 255 levels above the first leaf and the last: {times:.0?} ns, in {rounds} rounds"
+        "measured 256 steps refused with 11 and with 10, 256 edges above the first leaf and the last: {times:.0?} ns, in {rounds} rounds"
     );
     assert!(good(&times), "{times:?} in {rounds} rounds");
 }

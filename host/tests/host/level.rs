@@ -141,7 +141,7 @@ fn kind_1_at_the_root() {
     keeps(p8(255), [1, 0, 9, 255], Settle(1), (12, 1));
 }
 
-/// The largest pool at the limit, in one batch with the report before and after.
+/// The same in the largest pool, far from every leaf but two.
 #[test]
 fn kind_1_at_the_root_of_the_largest_pool() {
     for (level, answer, after) in [(1, (0, 1), 2), (254, (0, 1), 255), (255, (11, 0), 255)] {

@@ -301,9 +301,58 @@ fn ledger_rows(rng: &mut Rng, count: usize) {
     }
 }
 
+/// The saved form of 512 keys in 1,023 slots: half of them in a chain to the left below the root, half in one to the right, every inner
+/// edge red, every leaf of weight `level`. From the root it is 256 edges to the first leaf and to the last. The root is slot 1, and kind 1's
+/// condition holds there.
+fn two_chains(level: u32) -> Vec<u8> {
+    const KEYS: u32 = 512;
+    const HALF: u32 = KEYS / 2;
+    let (red, leaf) = (1, 2 * level);
+    let mut numbers = vec![SLOTS as u32, 2 * KEYS - 1, 3, HALF - 1];
+    (0..HALF - 1).rev().for_each(|router| numbers.extend([red, router]));
+    (0..HALF).for_each(|key| numbers.extend([leaf, key]));
+    (HALF..KEYS - 1).for_each(|key| numbers.extend([red, key, leaf, key]));
+    numbers.extend([leaf, KEYS - 1]);
+    let mut bytes = vec![];
+    for mut number in numbers {
+        while number >= 0x80 {
+            bytes.push(number as u8 | 0x80);
+            number >>= 7;
+        }
+        bytes.push(number as u8);
+    }
+    bytes
+}
+
+/// The greatest L. There kind 1 at the root is refused, and settle passes it by.
+const MOST_LEVEL: u32 = 255;
+
+/// What asks for L, far from every leaf but two: kind 1 at the root, in a step and in settle's scan, and the report; and beside them what
+/// does not ask for it.
+fn level_rows() {
+    let mut sets = pools(SLOTS);
+    let saved = two_chains(MOST_LEVEL);
+    for set in sets.iter_mut() {
+        assert_eq!(set.load_from(&saved), SLOTS as u64, "{}", set.name());
+        assert_eq!(set.pooled().map(|p| (p.report)(&p.words, 2)), Some(MOST_LEVEL.into()), "{}", set.name());
+    }
+    println!("512 keys in {SLOTS} slots, in two chains, L = {MOST_LEVEL}, ns each");
+    let nothing = Work::new(vec![], 1);
+    for (what, kind) in [("step, kind 1 at the root, code 11 (net)", Kind::One), ("step, kind 2 at the root, code 10 (net)", Kind::Two)] {
+        let steps = Work::new(vec![Command::Step { slot: 1, kind }; 256], 256);
+        race(&mut sets, &nothing, Race { what, before: &nothing, work: &steps, units: steps.len(), net: true });
+    }
+    let settle = Work::new(vec![Command::Settle { budget: 256 }], 1);
+    let what = "settle, a step of 256 with its scan (net)";
+    race(&mut sets, &nothing, Race { what, before: &nothing, work: &settle, units: 256, net: true });
+    race_pools("report's first number, a call", &mut sets, |set| set.pooled().map_or(0, |p| (p.report)(black_box(&p.words), 1)));
+    race_pools("report's second number, a call", &mut sets, |set| set.pooled().map_or(0, |p| (p.report)(black_box(&p.words), 2)));
+}
+
 fn main() {
     println!("in brackets: the library's time divided by that contestant's");
     println!("net: the audit that begins every call of a pool is taken off; all told: it is counted");
     table(64);
     table(512);
+    level_rows();
 }

@@ -73,6 +73,10 @@ pub trait Set {
     fn load(&mut self) -> u64 {
         unreachable!("{} is not loaded", self.name())
     }
+    /// Loads these.
+    fn load_from(&mut self, _saved: &[u8]) -> u64 {
+        unreachable!("{} is not loaded", self.name())
+    }
     /// Asks whether a text may go, and marks it. Of a pool only, as the next.
     fn may_send(&mut self, _notice: u32, _resident: u32, _limit: u32) -> u64 {
         unreachable!("{} is no ledger", self.name())
@@ -155,6 +159,10 @@ impl Set for Pooled {
 
     fn load(&mut self) -> u64 {
         (self.load)(&mut self.words, black_box(&self.room[..self.saved]))
+    }
+
+    fn load_from(&mut self, saved: &[u8]) -> u64 {
+        (self.load)(&mut self.words, saved)
     }
 
     fn may_send(&mut self, notice: u32, resident: u32, limit: u32) -> u64 {
