@@ -16,6 +16,7 @@ pub mod RulesTop
 pub mod RulesFacts
 pub mod Rules
 pub mod AuditCases
+pub mod FourthWord
 pub mod SmallWords
 pub mod Rows
 pub mod Damage

@@ -31,5 +31,6 @@ pub mod Demand3
 pub mod Deciding
 pub mod Decides
 pub mod Moves
+pub mod Levelled
 pub mod SettleAnswers
 pub mod Working
