@@ -9,7 +9,7 @@
 -- says how L moves. Assumes nothing.
 use mathlib.Core.Path.{_≡_, refl, ap, sym, _∙_}
 use mathlib.Core.Logic.{_≢_}
-use mathlib.Core.Bool.{Bool, true, false, _&&_}
+use mathlib.Core.Bool.{true, false, _&&_}
 use mathlib.Core.List.{List}
 use lib.Dec.{eqb, leb}
 use native.Mathlib.Omega.{arith}
@@ -21,7 +21,7 @@ use Rattle.tree.specs.declared.Named.the-variants.{Known}
 use Rattle.tree.specs.declared.Answer.the-variants.{Done}
 use Rattle.tree.specs.declared.Refusal.the-variants.{KeyAbsent}
 use Rattle.tree.specs.Codes.{kindNumber, named}
-use Rattle.tree.specs.Tree.{Tree, leaf, node, slotOf, isLeaf, one}
+use Rattle.tree.specs.Tree.{Tree, slotOf, isLeaf, one}
 use Rattle.tree.specs.Kinds.{risesBy, fallsBy}
 use Rattle.tree.specs.State.{State, Top, empty, full, levelTop, keyEnd, Outcome, refuses, report, delete, step}
 use Rattle.tree.proofs.Tests.{same-or-not}
@@ -145,13 +145,13 @@ done-kind s n S {a} = go (stepping s n S)
     go (taken {k = k} e f h b) d = (k, h)
 
 module _ {p : List ℕ} (g : Passing p) where
-  -- "the second key (to 1)": N is 1
+  -- The second key comes to a tree with N 1, and makes L 1. No other key moves it.
   pub insert-level : (x : ℕ) {a : ℕ} → insertAnswer p x ≡ Done a → (headerOf (insertWords p x)) .level ≡ (headerOf p) .level + one (eqb ((headerOf p) .nodes) 1)
   insert-level x d =
       let e = insert-entry x (shown g .sound) (shown g .shows) in
       rw (shows-level (e .1), shows-level (shown g .shows), shows-nodes (shown g .shows)) (insert-moves x (shown g .state) (shown g .sound) (sym (e .0) ∙ d))
 
-  -- "a delete under the root (less the sibling's weight; to 0 with the last two)": these are three nodes
+  -- A delete right under the root takes the sibling's weight off L, and no other moves it.
   pub delete-level : (x : ℕ) {a : ℕ} → deleteAnswer p x ≡ Done a → (headerOf (deleteWords p x)) .level + siblingUnderRoot p x ≡ (headerOf p) .level
   unfolding delete rootOf
   delete-level x {a} d = go (shown g .state .top) refl (delete-entry x (shown g .sound) (shown g .shows))
@@ -167,12 +167,13 @@ module _ {p : List ℕ} (g : Passing p) where
           let root : (headerOf p) .root ≡ slotOf t = rw h at (shows-root (shown g .shows)) in
           omega (arith, shows-level (e .1), shows-level (shown g .shows), cut-read x (shows-tree (shown g .shows) h) root, delete-moves x (shown g .state) (shown g .sound) (sym (e .0) ∙ d) t h)
 
+  -- Two keys are three nodes.
   pub delete-level-last : (x : ℕ) {a : ℕ} → deleteAnswer p x ≡ Done a → (headerOf p) .nodes ≡ 3 → (headerOf (deleteWords p x)) .level ≡ 0
   delete-level-last x d three =
       let e = delete-entry x (shown g .sound) (shown g .shows) in
       shows-level (e .1) ∙ delete-moves-last x (shown g .state) (shown g .sound) (sym (e .0) ∙ d) (sym (shows-nodes (shown g .shows)) ∙ three)
 
-  -- "kind 1 at the root (+1), kind 6 at the root (-1), nowhere else (kinds 7 and 8 at the root keep it)"
+  -- Kind 1 at the root raises L by 1 and kind 6 there lowers it by 1; kinds 7 and 8 there keep it, and so does every step below the root.
   pub step-level : (s n : ℕ) {a : ℕ} → stepAnswer p s n ≡ Done a → (k : Kind) → named n ≡ Known k
       → (s ≡ (headerOf p) .root → (headerOf (stepWords p s n)) .level + fallsBy k ≡ (headerOf p) .level + risesBy k)
       × (s ≢ (headerOf p) .root → (headerOf (stepWords p s n)) .level ≡ (headerOf p) .level)
