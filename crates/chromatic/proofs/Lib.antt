@@ -2,5 +2,6 @@ pub mod Exports
 pub mod Restart
 pub mod Places
 pub mod Excess
+pub mod Levels
 pub mod Sends
 pub mod Decides

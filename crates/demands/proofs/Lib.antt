@@ -1,6 +1,7 @@
 pub mod Runs
 pub mod Restarting
 pub mod Called
+pub mod Levels
 pub mod Ends
 pub mod Codes
 pub mod Striking

@@ -41,7 +41,7 @@ level-of-each-leaf p words passed t e x m =
     let is : getD p 3 0 ≡ level t = rw e at (level-word p words passed) in
     omega (arith, sums-equal 0 1 t (good .chromatic) x m)
 
--- Any words of a good length, found or not to be a tree
+-- Any words of a good length, whatever is found by following them: `headOf` of the sums is the first leaf's, and 0 where no leaf is found.
 pub level-checked : (p : List ℕ) → lengthGood p ≡ true → getD p 3 0 ≢ headOf (rootSums (treeFound (headerOf p) p)) → auditCode p ≡ 2
 unfolding headerOf
 level-checked p long other = go (rulesHold p) refl
@@ -80,10 +80,11 @@ module _ (p : List ℕ) (words : Words32 p) (passed : auditCode p ≡ 0) where
       sums : getD p 3 0 ≡ headOf (rootSums (treeFound (headerOf q) q))
       sums = rules-facts (headerOf p) q (g .1) .level ∙ sym (ap (λ (h : Header). headOf (rootSums (treeFound h q))) written)
 
-  -- "A fourth word of 0 with an L above 0 is now code 2."
+  -- A pool of before: 0 in the fourth word, and an L above 0.
   pub before-refused : getD p 3 0 ≢ 0 → auditCode (putLevel p 0) ≡ 2
   before-refused = other-level-refused 0
 
+-- With L 0 the words of before are those of now.
 pub before-same : (p : List ℕ) → getD p 3 0 ≡ 0 → putLevel p 0 ≡ p
 unfolding putLevel
 before-same p e = ap (λ (l : ℕ). putLevel p l) (sym e) ∙ set-getD p 3 0

@@ -3,6 +3,7 @@ pub mod Balancing
 pub mod Working
 pub mod Members
 pub mod Answers
+pub mod Levels
 pub mod Leaves
 pub mod Promises
 pub mod Decides

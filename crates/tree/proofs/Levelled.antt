@@ -15,7 +15,7 @@ use Rattle.tree.specs.declared.Answer.the-variants.{Done}
 use Rattle.tree.specs.Codes.{named}
 use Rattle.tree.specs.Tree.{Tree, leaf, node, slotOf, isLeaf, size, one, level}
 use Rattle.tree.specs.Kinds.{risesBy, fallsBy}
-use Rattle.tree.specs.State.{State, empty, full, nodes, levelTop, Sound, Outcome, insert, delete, step}
+use Rattle.tree.specs.State.{State, full, nodes, levelTop, Sound, Outcome, insert, delete, step}
 use Rattle.tree.proofs.Tests.{one-other}
 use Rattle.tree.proofs.Order.{nodes-of}
 use Rattle.tree.proofs.SoundStates.{tree-good, tree-once}
@@ -38,7 +38,7 @@ one-node-level (leaf s k) e = refl
 one-node-level (node s k wl l wr r) e = absurd (omega (arith, nodes-of l, nodes-of r))
 
 module _ (x : ℕ) (S : State) (sound : Sound S) {a : ℕ} where
-  -- "the second key (to 1)": the tree that it comes to has one node
+  -- The second key comes to a tree of one node, and makes L 1. No other key moves it.
   pub insert-moves : (insert x S) .answer ≡ Done a → levelTop ((insert x S) .after .top) ≡ levelTop (S .top) + one (eqb (nodes (S .top)) 1)
   unfolding levelTop nodes level one
   insert-moves = go (inserting x S sound)
@@ -51,7 +51,7 @@ module _ (x : ℕ) (S : State) (sound : Sound S) {a : ℕ} where
       go (beside {t} {a = v} {b = w} e f n i) d =
           rw e (omega (arith, insert-root-level (insertAt-is x v w 1 t) (tree-good S t sound e .chromatic), one-node t))
 
-  -- "a delete under the root (less the sibling's weight": `rootCut` is that weight, and 0 for a leaf that hangs elsewhere
+  -- `rootCut` (Delete.antt) is the sibling's weight, where the leaf hangs right under the root, and 0 where it hangs elsewhere.
   pub delete-moves : (delete x S) .answer ≡ Done a → (t : Tree) → S .top ≡ full t → levelTop ((delete x S) .after .top) + rootCut x t ≡ levelTop (S .top)
   unfolding levelTop level rootCut
   delete-moves d t h = go (deleting x S sound) d
@@ -62,7 +62,7 @@ module _ (x : ℕ) (S : State) (sound : Sound S) {a : ℕ} where
       go (the-last {s} e i) d = let same : t ≡ leaf s x = cc in rw (e, same)
       go (one-of {t = u} {c} e i f) d = let same : t ≡ u = cc in rw (e, same) (delete-root-level f (tree-good S u sound e .chromatic))
 
-  -- "to 0 with the last two)": two keys are three nodes
+  -- Two keys are three nodes.
   pub delete-moves-last : (delete x S) .answer ≡ Done a → nodes (S .top) ≡ 3 → levelTop ((delete x S) .after .top) ≡ 0
   unfolding levelTop nodes
   delete-moves-last d h = go (deleting x S sound) d
@@ -73,7 +73,7 @@ module _ (x : ℕ) (S : State) (sound : Sound S) {a : ℕ} where
       go (the-last e i) d = refl
       go (one-of {t} {c} e i f) d = let three : size t ≡ 3 = rw e at h in one-node-level (c .tree) (omega (arith, delete-size f))
 
--- "kind 1 at the root (+1), kind 6 at the root (-1), nowhere else"
+-- 01: "Kind 1 at the root raises L." Kind 6 there lowers it, kinds 7 and 8 there keep it, and so does every step below the root.
 pub step-moves : (s n : ℕ) (S : State) → Sound S → {a : ℕ} → (step s n S) .answer ≡ Done a → (t : Tree) → S .top ≡ full t → (k : Kind) → named n ≡ Known k
     → (s ≡ slotOf t → levelTop ((step s n S) .after .top) + fallsBy k ≡ levelTop (S .top) + risesBy k)
     × (s ≢ slotOf t → levelTop ((step s n S) .after .top) ≡ levelTop (S .top))
