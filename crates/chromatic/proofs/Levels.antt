@@ -31,6 +31,7 @@ use Rattle.commands.proofs.Running.{read-small}
 use Rattle.saved.specs.Calls.{loadCall}
 use Rattle.saved.proofs.Restarts.{load-says}
 use Rattle.set.specs.Set.{Passing}
+use Rattle.set.specs.Levels.{LevelTrue}
 use Rattle.set.proofs.Promises.{audit-passes, passing-words, passing-audited}
 use Rattle.ledger.specs.Ledger.{maySend, clearNotice}
 use Rattle.ledger.proofs.Sending.{send-passing}
@@ -38,15 +39,11 @@ use Rattle.ledger.proofs.Clearing.{clear-passing}
 use Rattle.chromatic.specs.Exports.{numberAt}
 use Rattle.chromatic.proofs.Exports.{number-passed}
 
--- the fourth word is L of the tree that the words show
-abbrev pub HasLevel : List ℕ → Type 0
-HasLevel q = getD q 3 0 ≡ levelTop ((stateOf q) .top)
-
-shown-level : {q : List ℕ} {S : State} → Sound S → PoolShows q S → HasLevel q
+shown-level : {q : List ℕ} {S : State} → Sound S → PoolShows q S → LevelTrue q
 unfolding headerOf
 shown-level sound shows = shows-level shows ∙ ap (λ (T : State). levelTop (T .top)) (sym (show-rules sound shows .2))
 
-passing-level : {q : List ℕ} → Passing q → HasLevel q
+passing-level : {q : List ℕ} → Passing q → LevelTrue q
 passing-level {q} g = level-word q (passing-words g) (passing-audited g)
 
 second-number : (t : Top) → figureAt 2 (report t) ≡ levelTop t
@@ -56,14 +53,14 @@ second-number (full t) = refl
 
 -- From any words
 module _ (p : List ℕ) where
-  pub level-after-prepare : lengthGood p ≡ true → HasLevel (preparedWords p)
+  pub level-after-prepare : lengthGood p ≡ true → LevelTrue (preparedWords p)
   level-after-prepare long = let s = prepared-shows p long in shown-level (s .0) (s .1)
 
   pub prepared-level : lengthGood p ≡ true → getD (preparedWords p) 3 0 ≡ 0
   unfolding headerOf prepared levelTop
   prepared-level long = shows-level (prepared-shows p long .1)
 
-  pub level-after-load : (bytes : List ℕ) → Bytes bytes → {n : ℕ} → (loadCall p bytes) .answer ≡ Done n → HasLevel ((loadCall p bytes) .left)
+  pub level-after-load : (bytes : List ℕ) → Bytes bytes → {n : ℕ} → (loadCall p bytes) .answer ≡ Done n → LevelTrue ((loadCall p bytes) .left)
   level-after-load bytes b {n} done = let L = load-says p bytes n b done in shown-level (L .stored .sound) (L .shows)
 
 -- From words for which the exported audit gives 0
@@ -74,22 +71,22 @@ module _ (p : List ℕ) (words : Words32 p) (passed : auditCode p ≡ 0) where
   pub leaf-sums-returned : (t : Tree) → (stateOf p) .top ≡ full t → (x : ℕ) → List·Memᴰ x (sumsFrom 0 t) → x ≡ numberAt p 2
   leaf-sums-returned t e x m = level-of-each-leaf p words passed t e x m ∙ sym level-returned
 
-  pub level-after-batch : (bytes out : List ℕ) → Bytes bytes → HasLevel ((batch p bytes out) .pool)
+  pub level-after-batch : (bytes out : List ℕ) → Bytes bytes → LevelTrue ((batch p bytes out) .pool)
   unfolding refused called
   level-after-batch bytes out b = go (ending p bytes out)
     where
-      kept : HasLevel p
+      kept : LevelTrue p
       kept = level-word p words passed
 
-      go : {r : Call} → Ending p bytes out r → HasLevel (r .pool)
+      go : {r : Call} → Ending p bytes out r → LevelTrue (r .pool)
       go (length-refused l) = kept
       go (bad-command l f) = kept
       go (few-answers l f h) = kept
       go (rules-refused l f h r) = kept
       go (ran {cs} l f h r) = let s = run-sound cs (stateOf p) (read-small bytes b f) (code-kept p words passed .sound) in shown-level s (shows-words s)
 
-  pub level-after-send : (n r l : ℕ) → HasLevel ((maySend p n r l) .left)
+  pub level-after-send : (n r l : ℕ) → LevelTrue ((maySend p n r l) .left)
   level-after-send n r l = passing-level (send-passing p n r l words (audit-passes p words .0 passed))
 
-  pub level-after-clear : (n : ℕ) → HasLevel ((clearNotice p n) .left)
+  pub level-after-clear : (n : ℕ) → LevelTrue ((clearNotice p n) .left)
   level-after-clear n = passing-level (clear-passing p n words (audit-passes p words .0 passed))

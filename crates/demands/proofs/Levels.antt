@@ -9,19 +9,20 @@ use mathlib.Core.List.{List, List·Memᴰ}
 use lib.ListN.{getD}
 use Prim.Native.Nat.{ℕ}
 use Rattle.tree.specs.Tree.{Tree, sumsFrom}
-use Rattle.tree.specs.State.{full, levelTop}
+use Rattle.tree.specs.State.{full}
 use Rattle.format.specs.Words.{headerOf}
 use Rattle.format.specs.Audit.{stateOf}
 use Rattle.format.proofs.FourthWord.{level-word, level-of-each-leaf}
 use Rattle.report.specs.Report.{reportOf}
 use Rattle.set.specs.Set.{Passing}
+use Rattle.set.specs.Levels.{LevelTrue}
 use Rattle.set.proofs.Passing.{passing-words, passing-audited}
 use Rattle.set.proofs.Levels.{level-reported}
 use Rattle.demands.specs.Calls.{Entry, Calls}
 use Rattle.demands.proofs.Called.{calls-passing}
 
 module _ {p q : List ℕ} {log : List Entry} (g : Passing p) (calls : Calls p log q) where
-  pub level-after-calls : getD q 3 0 ≡ levelTop ((stateOf q) .top)
+  pub level-after-calls : LevelTrue q
   level-after-calls = let h = calls-passing g calls in level-word q (passing-words h) (passing-audited h)
 
   pub leaf-sums-after-calls : (t : Tree) → (stateOf q) .top ≡ full t → (x : ℕ) → List·Memᴰ x (sumsFrom 0 t) → x ≡ getD q 3 0

@@ -28,11 +28,10 @@ use Rattle.tree.proofs.Tests.{same-or-not}
 use Rattle.tree.proofs.KindNumbers.{named-number}
 use Rattle.tree.proofs.Delete.{rootCut}
 use Rattle.tree.proofs.StepState.{in-empty, step-caused, StepCase, refused, taken, stepping}
-use Rattle.tree.proofs.Levelled.{insert-moves, delete-moves, delete-moves-last, step-moves}
-use Rattle.format.specs.declared.Slot.{Slot}
+use Rattle.tree.proofs.Levelled.{level-at-insert, level-at-delete, level-at-last-delete, level-at-step}
 use Rattle.format.specs.Words.{headerOf, slotAt, lengthGood, rootOf}
 use Rattle.format.specs.Shows.{Holds, holds-leaf, holds-node, PoolShows}
-use Rattle.format.specs.Audit.{bare, stateOf}
+use Rattle.format.specs.Audit.{bare}
 use Rattle.format.proofs.Frame.{holds-root, weight-of-root}
 use Rattle.format.proofs.RulesFound.{not-bare}
 use Rattle.format.proofs.Shown.{shows-root, shows-nodes, shows-level, shows-tree}
@@ -46,13 +45,11 @@ use Rattle.updates.proofs.DeleteShows.{delete-entry}
 use Rattle.steps.specs.Steps.{stepAnswer, stepWords, settleWords}
 use Rattle.steps.proofs.StepShows.{step-entry}
 use Rattle.set.specs.Set.{Passing}
+use Rattle.set.specs.Levels.{LevelTrue, siblingWeight, siblingUnderRoot}
 use Rattle.set.proofs.Passing.{shown, passing-state, prepare-passing, insert-passing, delete-passing, step-passing, settle-passing}
 
--- the fourth header word is L of the tree that the words show
-abbrev pub LevelTrue : List ℕ → Type 0
-LevelTrue p = (headerOf p) .level ≡ levelTop ((stateOf p) .top)
-
 pub level-true : {p : List ℕ} → Passing p → LevelTrue p
+unfolding headerOf
 level-true g = shows-level (passing-state g .1)
 
 -- "true after every prepare, insert, delete, step, settle"
@@ -80,21 +77,7 @@ module _ {p : List ℕ} (g : Passing p) where
       go empty = refl
       go (full t) = refl
 
--- The weight of the leaf's sibling, where the search for x ends at a leaf right under the root; else nothing. Read off the words: c are the
--- root's, l and r its children's. "A leaf has left and right 0."
-unfoldable pub siblingWeight : ℕ → (c l r : Slot) → ℕ
-siblingWeight x c l r = elim (bare c) [
-  | true ↦ 0
-  | false ↦ elim (leb x (c .key)) [
-    | true ↦ elim (bare l) [ true ↦ r .weight | false ↦ 0 ]
-    | false ↦ elim (bare r) [ true ↦ l .weight | false ↦ 0 ]
-  ]
-]
-
-unfoldable pub siblingUnderRoot : List ℕ → ℕ → ℕ
-siblingUnderRoot p x = let c = slotAt p ((headerOf p) .root) in siblingWeight x c (slotAt p (c .left)) (slotAt p (c .right))
-
--- It is what is cut off the tree that the words hold.
+-- `siblingUnderRoot` is what is cut off the tree that the words hold.
 leaf-read : {p : List ℕ} {w : ℕ} {t : Tree} → Holds p w t → bare (slotAt p (slotOf t)) ≡ isLeaf t
 unfolding slotOf isLeaf bare
 leaf-read (holds-leaf h) = rw (h .content)
@@ -149,7 +132,7 @@ module _ {p : List ℕ} (g : Passing p) where
   pub insert-level : (x : ℕ) {a : ℕ} → insertAnswer p x ≡ Done a → (headerOf (insertWords p x)) .level ≡ (headerOf p) .level + one (eqb ((headerOf p) .nodes) 1)
   insert-level x d =
       let e = insert-entry x (shown g .sound) (shown g .shows) in
-      rw (shows-level (e .1), shows-level (shown g .shows), shows-nodes (shown g .shows)) (insert-moves x (shown g .state) (shown g .sound) (sym (e .0) ∙ d))
+      rw (shows-level (e .1), shows-level (shown g .shows), shows-nodes (shown g .shows)) (level-at-insert x (shown g .state) (shown g .sound) (sym (e .0) ∙ d))
 
   -- A delete right under the root takes the sibling's weight off L, and no other moves it.
   pub delete-level : (x : ℕ) {a : ℕ} → deleteAnswer p x ≡ Done a → (headerOf (deleteWords p x)) .level + siblingUnderRoot p x ≡ (headerOf p) .level
@@ -165,13 +148,13 @@ module _ {p : List ℕ} (g : Passing p) where
           absurd (omega arith)
       go (full t) h e =
           let root : (headerOf p) .root ≡ slotOf t = rw h at (shows-root (shown g .shows)) in
-          omega (arith, shows-level (e .1), shows-level (shown g .shows), cut-read x (shows-tree (shown g .shows) h) root, delete-moves x (shown g .state) (shown g .sound) (sym (e .0) ∙ d) t h)
+          omega (arith, shows-level (e .1), shows-level (shown g .shows), cut-read x (shows-tree (shown g .shows) h) root, level-at-delete x (shown g .state) (shown g .sound) (sym (e .0) ∙ d) t h)
 
   -- Two keys are three nodes.
   pub delete-level-last : (x : ℕ) {a : ℕ} → deleteAnswer p x ≡ Done a → (headerOf p) .nodes ≡ 3 → (headerOf (deleteWords p x)) .level ≡ 0
   delete-level-last x d three =
       let e = delete-entry x (shown g .sound) (shown g .shows) in
-      shows-level (e .1) ∙ delete-moves-last x (shown g .state) (shown g .sound) (sym (e .0) ∙ d) (sym (shows-nodes (shown g .shows)) ∙ three)
+      shows-level (e .1) ∙ level-at-last-delete x (shown g .state) (shown g .sound) (sym (e .0) ∙ d) (sym (shows-nodes (shown g .shows)) ∙ three)
 
   -- Kind 1 at the root raises L by 1 and kind 6 there lowers it by 1; kinds 7 and 8 there keep it, and so does every step below the root.
   pub step-level : (s n : ℕ) {a : ℕ} → stepAnswer p s n ≡ Done a → (k : Kind) → named n ≡ Known k
@@ -193,7 +176,7 @@ module _ {p : List ℕ} (g : Passing p) where
           absurd (omega arith)
       go (full t) h =
           let root : (headerOf p) .root ≡ slotOf t = rw h at (shows-root (shown g .shows)) in
-          rw (shows-level (e .1), shows-level (shown g .shows), root) (step-moves s n (shown g .state) (shown g .sound) (sym (e .0) ∙ d) t h k f)
+          rw (shows-level (e .1), shows-level (shown g .shows), root) (level-at-step s n (shown g .state) (shown g .sound) (sym (e .0) ∙ d) t h k f)
 
   -- the same by the kind's number
   pub step-level-numbers : (s n : ℕ) {a : ℕ} → stepAnswer p s n ≡ Done a

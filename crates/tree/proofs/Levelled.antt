@@ -1,8 +1,8 @@
 -- Where L moves, over sound States, and that it moves nowhere else. Done, an insert raises it by 1 where the tree had one node, which makes
--- its key the second, and no other insert moves it (`insert-moves`); a delete lowers it by the sibling's weight where its leaf hangs right
--- under the root, and no other moves it (`delete-moves`); of two keys it leaves L 0 (`delete-moves-last`); a step at the root moves it as
+-- its key the second, and no other insert moves it (`level-at-insert`); a delete lowers it by the sibling's weight where its leaf hangs right
+-- under the root, and no other moves it (`level-at-delete`); of two keys it leaves L 0 (`level-at-last-delete`); a step at the root moves it as
 -- the tables `risesBy` and `fallsBy` say, kind 1 up by 1, kind 6 down by 1, the others not, and a step elsewhere does not move it
--- (`step-moves`). A command that is refused leaves the State (Updated.antt: `insert-kept`, `delete-kept`; StepState.antt: `step-refused`).
+-- (`level-at-step`). A command that is refused leaves the State (Updated.antt: `insert-kept`, `delete-kept`; StepState.antt: `step-refused`).
 -- Why: Insert.antt, Delete.antt and StepLevels.antt say it of trees; a tree of one node is a leaf. Assumes nothing.
 use mathlib.Core.Path.{_≡_, refl, sym}
 use mathlib.Core.Logic.{_≢_}
@@ -39,9 +39,9 @@ one-node-level (node s k wl l wr r) e = absurd (omega (arith, nodes-of l, nodes-
 
 module _ (x : ℕ) (S : State) (sound : Sound S) {a : ℕ} where
   -- The second key comes to a tree of one node, and makes L 1. No other key moves it.
-  pub insert-moves : (insert x S) .answer ≡ Done a → levelTop ((insert x S) .after .top) ≡ levelTop (S .top) + one (eqb (nodes (S .top)) 1)
+  pub level-at-insert : (insert x S) .answer ≡ Done a → levelTop ((insert x S) .after .top) ≡ levelTop (S .top) + one (eqb (nodes (S .top)) 1)
   unfolding levelTop nodes level one
-  insert-moves = go (inserting x S sound)
+  level-at-insert = go (inserting x S sound)
     where
       go : {o : Outcome} → Inserting x S o → o .answer ≡ Done a → levelTop (o .after .top) ≡ levelTop (S .top) + one (eqb (nodes (S .top)) 1)
       go (is-there e f i) d = let z : _≡_ {A = ℕ} 0 1 = cc in absurd (omega arith)
@@ -52,9 +52,9 @@ module _ (x : ℕ) (S : State) (sound : Sound S) {a : ℕ} where
           rw e (omega (arith, insert-root-level (insertAt-is x v w 1 t) (tree-good S t sound e .chromatic), one-node t))
 
   -- `rootCut` (Delete.antt) is the sibling's weight, where the leaf hangs right under the root, and 0 where it hangs elsewhere.
-  pub delete-moves : (delete x S) .answer ≡ Done a → (t : Tree) → S .top ≡ full t → levelTop ((delete x S) .after .top) + rootCut x t ≡ levelTop (S .top)
+  pub level-at-delete : (delete x S) .answer ≡ Done a → (t : Tree) → S .top ≡ full t → levelTop ((delete x S) .after .top) + rootCut x t ≡ levelTop (S .top)
   unfolding levelTop level rootCut
-  delete-moves d t h = go (deleting x S sound) d
+  level-at-delete d t h = go (deleting x S sound) d
     where
       go : {o : Outcome} → Deleting x S o → o .answer ≡ Done a → levelTop (o .after .top) + rootCut x t ≡ levelTop (S .top)
       go (from-none e i) d = let z : _≡_ {A = ℕ} 0 1 = cc in absurd (omega arith)
@@ -63,9 +63,9 @@ module _ (x : ℕ) (S : State) (sound : Sound S) {a : ℕ} where
       go (one-of {t = u} {c} e i f) d = let same : t ≡ u = cc in rw (e, same) (delete-root-level f (tree-good S u sound e .chromatic))
 
   -- Two keys are three nodes.
-  pub delete-moves-last : (delete x S) .answer ≡ Done a → nodes (S .top) ≡ 3 → levelTop ((delete x S) .after .top) ≡ 0
+  pub level-at-last-delete : (delete x S) .answer ≡ Done a → nodes (S .top) ≡ 3 → levelTop ((delete x S) .after .top) ≡ 0
   unfolding levelTop nodes
-  delete-moves-last d h = go (deleting x S sound) d
+  level-at-last-delete d h = go (deleting x S sound) d
     where
       go : {o : Outcome} → Deleting x S o → o .answer ≡ Done a → levelTop (o .after .top) ≡ 0
       go (from-none e i) d = let z : _≡_ {A = ℕ} 0 1 = cc in absurd (omega arith)
@@ -74,11 +74,11 @@ module _ (x : ℕ) (S : State) (sound : Sound S) {a : ℕ} where
       go (one-of {t} {c} e i f) d = let three : size t ≡ 3 = rw e at h in one-node-level (c .tree) (omega (arith, delete-size f))
 
 -- 01: "Kind 1 at the root raises L." Kind 6 there lowers it, kinds 7 and 8 there keep it, and so does every step below the root.
-pub step-moves : (s n : ℕ) (S : State) → Sound S → {a : ℕ} → (step s n S) .answer ≡ Done a → (t : Tree) → S .top ≡ full t → (k : Kind) → named n ≡ Known k
+pub level-at-step : (s n : ℕ) (S : State) → Sound S → {a : ℕ} → (step s n S) .answer ≡ Done a → (t : Tree) → S .top ≡ full t → (k : Kind) → named n ≡ Known k
     → (s ≡ slotOf t → levelTop ((step s n S) .after .top) + fallsBy k ≡ levelTop (S .top) + risesBy k)
     × (s ≢ slotOf t → levelTop ((step s n S) .after .top) ≡ levelTop (S .top))
 unfolding levelTop
-step-moves s n S sound {a} d t e k g = go (accepted-iff s n S sound t e a .0 d)
+level-at-step s n S sound {a} d t e k g = go (accepted-iff s n S sound t e a .0 d)
   where
     go : Accepted s n a t
         → (s ≡ slotOf t → levelTop ((step s n S) .after .top) + fallsBy k ≡ levelTop (S .top) + risesBy k)
