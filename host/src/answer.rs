@@ -110,7 +110,7 @@ impl fmt::Display for Refused {
             }
             Refused::RulesBroken => f.write_str(
                 "the pool breaks an audit rule; what it says of marks means nothing, send no text by it; if an archive of interface 5 or \
-                 before left it, save it with one of interface 5 and load the bytes with this one",
+                 before left it, save it with one of interface 5 and load the bytes with this one, and do not prepare it",
             ),
             Refused::BadCommand { wrong_at } => write!(
                 f,

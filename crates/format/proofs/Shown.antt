@@ -15,7 +15,7 @@ use native.Mathlib.Decide.{decLe}
 use borrow.Author.Tests.{eqb-true, eq-eqb, leb-true, le-leb}
 use Rattle.format.specs.declared.Header.{Header}
 use Rattle.format.specs.declared.Slot.{Slot}
-use Rattle.format.specs.Words.{header, atLevel, slot, headerOf, putHeader, slotAt, slotsIn, lengthGood, freeSlot, headOf, inTree, inChain, inTop, rootOf, shownSlot, shownHeader, wordsOf}
+use Rattle.format.specs.Words.{header, atLevel, slot, putHeader, slotAt, slotsIn, lengthGood, freeSlot, headOf, inTree, inChain, inTop, rootOf, shownSlot, shownHeader, wordsOf}
 use Rattle.format.specs.Shows.{At, Holds, holds-leaf, holds-node, HoldsTop, Chain, chain-end, chain-more, Shows, PoolShows}
 use Rattle.tree.specs.Codes.{mostSlots}
 use Rattle.tree.specs.Tree.{Tree, leaf, node, slotOf, size, count, countIn, level}

@@ -133,8 +133,8 @@ rootSums (found s c l r) = elim (bare c) [ true ↦ 0 ∷ [] | false ↦ sumsOf 
 unfoldable pub rule-sums : Header → List ℕ → Bool
 rule-sums h p = let sums = rootSums (treeFound h p) in all (λ n. eqb n (headOf sums)) sums && leb (headOf sums) mostLevel
 
--- RULES 2.1. 02 (v): "Keep L in the fourth header word [..]. The audit checks it against the weights; 01's rule that this word is 0 is
--- replaced." L is the first leaf's sum, as RULES 2.7 compares each leaf's with it; there is none where there is no leaf, and L is 0.
+-- RULES 2.1. 02 (v): "The audit checks it against the weights; 01's rule that this word is 0 is replaced." L is the first leaf's sum, as
+-- RULES 2.7 compares each leaf's with it; there is none where there is no leaf, and L is 0.
 unfoldable pub rule-level : Header → List ℕ → Bool
 rule-level h p = eqb (h .level) (headOf (rootSums (treeFound h p)))
 

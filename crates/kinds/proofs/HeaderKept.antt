@@ -1,9 +1,8 @@
 -- What a step writes is slots: on any words it leaves the first four, where a pool's header lies (`applied-header`). Assumes nothing.
-use mathlib.Core.Path.{_≡_, refl, _∙_}
+use mathlib.Core.Path.{_≡_, _∙_}
 use mathlib.Core.Bool.{Bool}
 use mathlib.Core.List.{List}
 use native.Mathlib.Omega.{arith}
-use lib.Dec.{eqb}
 use borrow.Author.Tests.{eq-eqb, ne-eqb}
 use Prim.Native.Nat.{ℕ, _≤_}
 use Rattle.tree.specs.declared.Kind.{Kind}

@@ -305,7 +305,7 @@ fn first_slot(n: u32) -> u32
     if n == 0 { 0 } else { 1 }
 }
 
-// 02 (v): "Keep L in the fourth header word, true after every [..] read back."
+// Tree, free slots and header, with L.
 fn build_all(pool: &mut [u32], bytes: &[u8], c: u32, n: u32, level: u32, at: usize)
     requires { ⌜ TopBuildable (now bytes) n at × (n ≤ c) × (c + 1 < 2 ^ 32) ⌝ }
     ensures { λ _. ⌜ AllBuildSays (now (bytes .entry)) c n level at (now (pool .entry)) (now (pool .exit)) ⌝ }

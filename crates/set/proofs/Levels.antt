@@ -1,9 +1,9 @@
 -- 02 (v): "Keep L in the fourth header word, true after every prepare, insert, delete, step, settle". Of a pool that passes the audit that
 -- word is L of the tree that the words show (`level-true`), and so it is after each of the five (`prepare-level-true` .. `settle-level-true`).
 -- It is the report's second number (`level-reported`). By the words alone, where it moves and that it moves nowhere else: an insert that is
--- done raises it by 1 where N was 1 (`insert-level`); a delete that is done lowers it by the sibling's weight where the leaf hung right under
--- the root (`delete-level`), and to 0 where N was 3 (`delete-level-last`); a step that is done moves it at the root alone, as the tables
--- `risesBy` and `fallsBy` say (`step-level`): by its number, 1 up and 6 down (`step-level-numbers`). A refused command changes no word
+-- done raises it by 1 where N was 1 (`insert-level-word`); a delete that is done lowers it by the sibling's weight where the leaf hung right under
+-- the root (`delete-level-word`), and to 0 where N was 3 (`last-delete-level-word`); a step that is done moves it at the root alone, as the tables
+-- `risesBy` and `fallsBy` say (`step-level-word`): by its number, 1 up and 6 down (`step-level-by-number`). A refused command changes no word
 -- (Promises.antt: `…-kept`).
 -- Why: words that show a sound State have its L in their header; each operation on them is the State's, of which crate tree's Levelled.antt
 -- says how L moves. Assumes nothing.
@@ -129,15 +129,15 @@ done-kind s n S {a} = go (stepping s n S)
 
 module _ {p : List ℕ} (g : Passing p) where
   -- The second key comes to a tree with N 1, and makes L 1. No other key moves it.
-  pub insert-level : (x : ℕ) {a : ℕ} → insertAnswer p x ≡ Done a → (headerOf (insertWords p x)) .level ≡ (headerOf p) .level + one (eqb ((headerOf p) .nodes) 1)
-  insert-level x d =
+  pub insert-level-word : (x : ℕ) {a : ℕ} → insertAnswer p x ≡ Done a → (headerOf (insertWords p x)) .level ≡ (headerOf p) .level + one (eqb ((headerOf p) .nodes) 1)
+  insert-level-word x d =
       let e = insert-entry x (shown g .sound) (shown g .shows) in
       rw (shows-level (e .1), shows-level (shown g .shows), shows-nodes (shown g .shows)) (level-at-insert x (shown g .state) (shown g .sound) (sym (e .0) ∙ d))
 
   -- A delete right under the root takes the sibling's weight off L, and no other moves it.
-  pub delete-level : (x : ℕ) {a : ℕ} → deleteAnswer p x ≡ Done a → (headerOf (deleteWords p x)) .level + siblingUnderRoot p x ≡ (headerOf p) .level
+  pub delete-level-word : (x : ℕ) {a : ℕ} → deleteAnswer p x ≡ Done a → (headerOf (deleteWords p x)) .level + siblingUnderRoot p x ≡ (headerOf p) .level
   unfolding delete rootOf
-  delete-level x {a} d = go (shown g .state .top) refl (delete-entry x (shown g .sound) (shown g .shows))
+  delete-level-word x {a} d = go (shown g .state .top) refl (delete-entry x (shown g .sound) (shown g .shows))
     where
       go : (T : Top) → shown g .state .top ≡ T → (deleteAnswer p x ≡ (delete x (shown g .state)) .answer) × PoolShows (deleteWords p x) ((delete x (shown g .state)) .after)
           → (headerOf (deleteWords p x)) .level + siblingUnderRoot p x ≡ (headerOf p) .level
@@ -151,17 +151,17 @@ module _ {p : List ℕ} (g : Passing p) where
           omega (arith, shows-level (e .1), shows-level (shown g .shows), cut-read x (shows-tree (shown g .shows) h) root, level-at-delete x (shown g .state) (shown g .sound) (sym (e .0) ∙ d) t h)
 
   -- Two keys are three nodes.
-  pub delete-level-last : (x : ℕ) {a : ℕ} → deleteAnswer p x ≡ Done a → (headerOf p) .nodes ≡ 3 → (headerOf (deleteWords p x)) .level ≡ 0
-  delete-level-last x d three =
+  pub last-delete-level-word : (x : ℕ) {a : ℕ} → deleteAnswer p x ≡ Done a → (headerOf p) .nodes ≡ 3 → (headerOf (deleteWords p x)) .level ≡ 0
+  last-delete-level-word x d three =
       let e = delete-entry x (shown g .sound) (shown g .shows) in
       shows-level (e .1) ∙ level-at-last-delete x (shown g .state) (shown g .sound) (sym (e .0) ∙ d) (sym (shows-nodes (shown g .shows)) ∙ three)
 
   -- Kind 1 at the root raises L by 1 and kind 6 there lowers it by 1; kinds 7 and 8 there keep it, and so does every step below the root.
-  pub step-level : (s n : ℕ) {a : ℕ} → stepAnswer p s n ≡ Done a → (k : Kind) → named n ≡ Known k
+  pub step-level-word : (s n : ℕ) {a : ℕ} → stepAnswer p s n ≡ Done a → (k : Kind) → named n ≡ Known k
       → (s ≡ (headerOf p) .root → (headerOf (stepWords p s n)) .level + fallsBy k ≡ (headerOf p) .level + risesBy k)
       × (s ≢ (headerOf p) .root → (headerOf (stepWords p s n)) .level ≡ (headerOf p) .level)
   unfolding rootOf
-  step-level s n {a} d k f = go (shown g .state .top) refl
+  step-level-word s n {a} d k f = go (shown g .state .top) refl
     where
       e : (stepAnswer p s n ≡ (step s n (shown g .state)) .answer) × PoolShows (stepWords p s n) ((step s n (shown g .state)) .after)
       e = step-entry (shown g .sound) (shown g .shows) s n
@@ -179,15 +179,15 @@ module _ {p : List ℕ} (g : Passing p) where
           rw (shows-level (e .1), shows-level (shown g .shows), root) (level-at-step s n (shown g .state) (shown g .sound) (sym (e .0) ∙ d) t h k f)
 
   -- the same by the kind's number
-  pub step-level-numbers : (s n : ℕ) {a : ℕ} → stepAnswer p s n ≡ Done a
+  pub step-level-by-number : (s n : ℕ) {a : ℕ} → stepAnswer p s n ≡ Done a
       → (headerOf (stepWords p s n)) .level + one (eqb s ((headerOf p) .root) && eqb n (kindNumber Lighten)) ≡ (headerOf p) .level + one (eqb s ((headerOf p) .root) && eqb n (kindNumber Blacken))
   unfolding one
-  step-level-numbers s n {a} d = let K = done-kind s n (shown g .state) (sym (step-entry (shown g .sound) (shown g .shows) s n .0) ∙ d) in go (K .0) (K .1)
+  step-level-by-number s n {a} d = let K = done-kind s n (shown g .state) (sym (step-entry (shown g .sound) (shown g .shows) s n .0) ∙ d) in go (K .0) (K .1)
     where
       go : (k : Kind) → named n ≡ Known k
           → (headerOf (stepWords p s n)) .level + one (eqb s ((headerOf p) .root) && eqb n (kindNumber Lighten)) ≡ (headerOf p) .level + one (eqb s ((headerOf p) .root) && eqb n (kindNumber Blacken))
       go k f =
-          let m = step-level s n d k f in
+          let m = step-level-word s n d k f in
           let rises : risesBy k ≡ one (eqb n (kindNumber Blacken)) = rw (named-number n k f) (rises-number k) in
           let falls : fallsBy k ≡ one (eqb n (kindNumber Lighten)) = rw (named-number n k f) (falls-number k) in
           same-or-not s ((headerOf p) .root)

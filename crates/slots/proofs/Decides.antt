@@ -24,8 +24,8 @@ use Rattle.slots.proofs.is_slot.Kinds as is-slot-kinds
 use Rattle.slots.proofs.is_slot.Reads as is-slot-reads
 use Rattle.slots.proofs.one_less.Kinds as one-less-kinds
 use Rattle.slots.proofs.one_less.Reads as one-less-reads
-use Rattle.slots.proofs.less.Kinds as less-kinds
-use Rattle.slots.proofs.less.Reads as less-reads
+use Rattle.slots.proofs.less_by.Kinds as less-by-kinds
+use Rattle.slots.proofs.less_by.Reads as less-by-reads
 use Rattle.slots.proofs.free_slot.Kinds as free-slot-kinds
 use Rattle.slots.proofs.free_slot.Reads as free-slot-reads
 
@@ -65,8 +65,8 @@ is-slot-decides κs a x y e f p q = equal p q
 pub one-less-decides : DecidesResult 0 one-less-kinds.ps one-less-kinds.r one-less-reads.Post
 one-less-decides κs a x y e f p q = equal p q
 
-pub less-decides : DecidesResult 0 less-kinds.ps less-kinds.r less-reads.Post
-less-decides κs a x y e f p q = equal p q
+pub less-by-decides : DecidesResult 0 less-by-kinds.ps less-by-kinds.r less-by-reads.Post
+less-by-decides κs a x y e f p q = equal p q
 
 pub free-slot-decides : DecidesResult 0 free-slot-kinds.ps free-slot-kinds.r free-slot-reads.Post
 free-slot-decides κs a x y e f p q = equal p q

@@ -155,11 +155,11 @@ pub fn one_less(n: u32) -> u32
     if n == 0 { 0 } else { n - 1 }
 }
 
-// A sum that falls by n; it falls to 0 and no further.
-pub fn less(sum: u32, n: u32) -> u32
-    ensures { λ r. ⌜ r ≡ sum - n ⌝ }
+// n less `by`; it falls to 0 and no further.
+pub fn less_by(n: u32, by: u32) -> u32
+    ensures { λ r. ⌜ r ≡ n - by ⌝ }
 {
-    if sum < n { 0 } else { sum - n }
+    if n < by { 0 } else { n - by }
 }
 
 pub fn free_slot(next: u32) -> Slot

@@ -3,11 +3,10 @@
 -- Why: what a step writes is slots (`applied-header` of crate kinds), and the header after it is the one before it with another L; the slots
 -- of the scan are numbered from 1. Assumes nothing.
 use mathlib.Core.Path.{_≡_, refl, sym, ap, _∙_}
-use mathlib.Core.Bool.{Bool, true, false, _&&_, and-eq-true-iff}
+use mathlib.Core.Bool.{Bool, true, false, and-eq-true-iff}
 use mathlib.Core.List.{List, [], _∷_}
 use mathlib.Core.Option.{Option, none, some}
 use native.Mathlib.Omega.{arith}
-use lib.Dec.{leb}
 use borrow.Author.Tests.{leb-true}
 use Prim.Native.Nat.{ℕ, zero, suc, _≤_}
 use Rattle.tree.specs.declared.Kind.{Kind}
@@ -18,17 +17,16 @@ use Rattle.tree.specs.declared.Answer.the-variants.{Done, Refused}
 use Rattle.tree.specs.Codes.{kinds, kindNumber, named}
 use Rattle.tree.specs.Settle.{lastOf}
 use Rattle.format.specs.declared.Header.{Header}
-use Rattle.format.specs.declared.Slot.{Slot}
 use Rattle.format.specs.Words.{atLevel, headerOf, putHeader, slotAt, lastSlot}
 use Rattle.format.specs.Performing.{Written, written, wordsAfter}
 use Rattle.format.proofs.Slots.{level-alone}
-use Rattle.kinds.specs.Around.{aroundOf, aroundAt}
+use Rattle.kinds.specs.Around.{aroundAt}
 use Rattle.kinds.specs.Conditions.{fits}
-use Rattle.kinds.specs.Effects.{applied, headerAfter}
+use Rattle.kinds.specs.Effects.{headerAfter}
 use Rattle.kinds.proofs.HeaderKept.{applied-header}
 use Rattle.steps.specs.declared.Lowest.{Lowest}
 use Rattle.steps.specs.declared.Lowest.the-variants.{At, Nothing}
-use Rattle.steps.specs.Steps.{hasChildren, innerSlot, innerAt, limitAt, takenWords, stepKind, stepNamed, stepUnder, firstKind, firstFrom, firstAllowed, Pool, poolOf, nextPool, poolsAfter, settleUnder, levelWritten, stepWords, settleWords}
+use Rattle.steps.specs.Steps.{innerSlot, innerAt, limitAt, takenWords, stepKind, stepNamed, stepUnder, firstKind, firstFrom, firstAllowed, Pool, poolOf, nextPool, poolsAfter, settleUnder, levelWritten, stepWords, settleWords}
 
 -- from a pool to another one: the first four words stay, and of the header all but L
 record Kept (P Q : Pool) : Type 0 where

@@ -8,7 +8,6 @@ use mathlib.Core.Path.{_≡_, refl, sym, _∙_}
 use mathlib.Core.Bool.{Bool, true, false}
 use mathlib.Core.List.{List}
 use lib.Dec.{eqb}
-use native.Mathlib.Omega.{arith}
 use Prim.Native.Nat.{ℕ}
 use Rattle.tree.specs.declared.Kind.{Kind}
 use Rattle.tree.specs.declared.Named.{Named}
@@ -26,9 +25,8 @@ use Rattle.format.specs.declared.Header.{Header}
 use Rattle.format.specs.declared.Slot.{Slot}
 use Rattle.format.specs.Words.{headerOf, slotAt}
 use Rattle.format.specs.Shows.{Shows, PoolShows}
-use Rattle.format.specs.Performing.{Written, written}
+use Rattle.format.specs.Performing.{written}
 use Rattle.format.proofs.Performing.{Ends, refused as ended, done, entry-kept, Does, does-refused, does-pool}
-use Rattle.format.proofs.Slots.{header-kept}
 use Rattle.kinds.specs.Around.{aroundOf, aroundAt}
 use Rattle.kinds.specs.Conditions.{fits}
 use Rattle.kinds.specs.Effects.{applied, headerAfter}

@@ -112,8 +112,8 @@ settleUnder p h budget =
     let Q = lastOf (poolOf h p) Qs in
     written (Q .words) (settled (length Qs) (nextPool Q)) (Q .header)
 
--- The entries of a pool: the header is read once, at the beginning, and L written once, at the end; a step moves no other word of the header
--- (`step-words`, `settle-words` in proofs/HeaderKept.antt).
+-- The entries of a pool: the header is read once, at the beginning, and L written once, at the end (RULES 4.12); a step moves no other word of
+-- the header (`step-words`, `settle-words` in proofs/HeaderKept.antt).
 abbrev pub levelWritten : Written → List ℕ
 levelWritten w = putLevel (w .words) (w .result .header .level)
 

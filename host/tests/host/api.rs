@@ -951,7 +951,7 @@ fn errors_are_errors() {
     assert_eq!(
         Refused::RulesBroken.to_string(),
         "refused with code 2: the pool breaks an audit rule; what it says of marks means nothing, send no text by it; if an archive of \
-         interface 5 or before left it, save it with one of interface 5 and load the bytes with this one"
+         interface 5 or before left it, save it with one of interface 5 and load the bytes with this one, and do not prepare it"
     );
     assert_eq!(
         Refused::BadCommand { wrong_at: 40 }.to_string(),

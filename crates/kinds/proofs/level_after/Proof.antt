@@ -13,12 +13,12 @@ wrapping-add-u32-requires c κs = search needs
 falls-by-requires : tie.Need-falls-by-requires
 falls-by-requires c κs = search needs
 
-less-requires : tie.Need-less-requires
-less-requires c κs = search needs
+less-by-requires : tie.Need-less-by-requires
+less-by-requires c κs = search needs
 
 returns : tie.Need-returns
 unfolding levelAfter
-returns c = rw (c .before .before .before .before .if1 .taken, c .less .ensures, c .before .falls-by .ensures, c .before .before .wrapping-add-u32 .ensures, c .before .before .before .rises-by .ensures)
+returns c = rw (c .before .before .before .before .if1 .taken, c .less-by .ensures, c .before .falls-by .ensures, c .before .before .wrapping-add-u32 .ensures, c .before .before .before .rises-by .ensures)
 
 returns-2 : tie.Need-returns-2
 unfolding levelAfter
@@ -31,6 +31,6 @@ level-after-spec =
     rises-by-requires
     wrapping-add-u32-requires
     falls-by-requires
-    less-requires
+    less-by-requires
     returns
     returns-2)

@@ -11,10 +11,10 @@ use Rattle.steps.proofs.settle_under.Statement.{statement}
 use Rattle.steps.proofs.settle_under.Tie as tie
 
 abbrev Inv-loop : tie.InvT-loop
-Inv-loop pool₀ budget left₀ taken₀ pool left taken = (taken ≤ budget) × (length pool ≡ length pool₀) × Turn left₀ budget pool₀ taken (poolOf left pool)
+Inv-loop pool₀ budget header₀ taken₀ pool header taken = (taken ≤ budget) × (length pool ≡ length pool₀) × Turn header₀ budget pool₀ taken (poolOf header pool)
 
 abbrev μ-loop : tie.MeasureT-loop
-μ-loop pool₀ budget left₀ taken₀ pool left taken = budget - taken
+μ-loop pool₀ budget header₀ taken₀ pool header taken = budget - taken
 
 loop-holds : tie.Need-loop-holds Inv-loop μ-loop
 loop-holds c = (omega arith, refl, begin _ _ _)
