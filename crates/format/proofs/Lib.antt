@@ -1,5 +1,6 @@
 pub mod Slots
 pub mod Frame
+pub mod Parts
 pub mod Writes
 pub mod Replace
 pub mod Shown

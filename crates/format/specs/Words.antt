@@ -8,6 +8,8 @@ use lib.ListN.{length, getD, set}
 use Prim.Native.Nat.{ℕ, zero, suc, _+_, _*_, _-_, _/_, min}
 use Rattle.format.specs.declared.Header.{Header}
 use Rattle.format.specs.declared.Slot.{Slot}
+use Rattle.format.specs.declared.Part.{Part}
+use Rattle.format.specs.declared.Part.the-variants.{Key, Left, Right, Weight}
 use Rattle.tree.specs.Codes.{mostSlots}
 use Rattle.tree.specs.Tree.{Tree, leaf, node, slotOf}
 use Rattle.tree.specs.State.{State, state, Top, empty, full, nodes, levelTop}
@@ -46,6 +48,26 @@ slotAt p s = slot (getD p (wordOf s) 0) (getD p (wordOf s + 1) 0) (getD p (wordO
 
 unfoldable pub putSlot : List ℕ → ℕ → Slot → List ℕ
 putSlot p s c = set (set (set (set p (wordOf s) (c .key)) (wordOf s + 1) (c .left)) (wordOf s + 2) (c .right)) (wordOf s + 3) (c .weight)
+
+-- RULES 1.4: one of a slot's words: where it stands among the four, what it is in the words c, the place of slot s's in the pool, and that
+-- one alone written.
+abbrev pub placeOf : Part → ℕ
+placeOf Key = 0
+placeOf Left = 1
+placeOf Right = 2
+placeOf Weight = 3
+
+abbrev pub partOf : Part → Slot → ℕ
+partOf Key c = c .key
+partOf Left c = c .left
+partOf Right c = c .right
+partOf Weight c = c .weight
+
+abbrev pub partWord : ℕ → Part → ℕ
+partWord s x = wordOf s + placeOf x
+
+unfoldable pub putPart : List ℕ → ℕ → Part → Slot → List ℕ
+putPart p s x c = set p (partWord s x) (partOf x c)
 
 -- C; the last slot, which is C in a pool of a good length and 1,023 in a longer one
 unfoldable pub slotsIn : List ℕ → ℕ

@@ -8,6 +8,10 @@ use Rattle.slots.proofs.get_slot.Kinds as get-slot-kinds
 use Rattle.slots.proofs.get_slot.Reads as get-slot-reads
 use Rattle.slots.proofs.put_slot.Kinds as put-slot-kinds
 use Rattle.slots.proofs.put_slot.Reads as put-slot-reads
+use Rattle.slots.proofs.get_part.Kinds as get-part-kinds
+use Rattle.slots.proofs.get_part.Reads as get-part-reads
+use Rattle.slots.proofs.put_part.Kinds as put-part-kinds
+use Rattle.slots.proofs.put_part.Reads as put-part-reads
 use Rattle.slots.proofs.get_header.Kinds as get-header-kinds
 use Rattle.slots.proofs.get_header.Reads as get-header-reads
 use Rattle.slots.proofs.put_header.Kinds as put-header-kinds
@@ -40,6 +44,12 @@ get-slot-decides κs a x y e f p q = equal p q
 
 pub put-slot-decides : DecidesWords 1 put-slot-kinds.ps put-slot-kinds.r (λ κs e. e .0 .now) put-slot-reads.Post
 put-slot-decides κs a x y e f p q = equal p q
+
+pub get-part-decides : DecidesResult 1 get-part-kinds.ps get-part-kinds.r get-part-reads.Post
+get-part-decides κs a x y e f p q = equal p q
+
+pub put-part-decides : DecidesWords 1 put-part-kinds.ps put-part-kinds.r (λ κs e. e .0 .now) put-part-reads.Post
+put-part-decides κs a x y e f p q = equal p q
 
 pub get-header-decides : DecidesResult 1 get-header-kinds.ps get-header-kinds.r get-header-reads.Post
 get-header-decides κs a x y e f p q = equal p q

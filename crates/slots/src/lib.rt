@@ -1,12 +1,13 @@
 // A pool's words, lent: words, slots and the header, read and written by functions that are total. Past the end a read is 0 and a
 // write does nothing, so callers have no bounds to prove and every contract is an equation.
 use format::Header;
+use format::Part;
 use format::Slot;
 use tree::MOST_SLOTS;
 ghost use mathlib.Core.Path.{_≡_};
 ghost use lib.ListN.{getD, set};
 ghost use Prim.Native.Nat.{pred, _-_};
-ghost use Rattle.format.specs.Words.{headerOf, putHeader, putLevel, slotAt, putSlot, slotsIn, lastSlot, lengthGood, freeSlot};
+ghost use Rattle.format.specs.Words.{headerOf, putHeader, putLevel, slotAt, putSlot, partOf, putPart, slotsIn, lastSlot, lengthGood, freeSlot};
 ghost use Rattle.format.specs.Audit.{isSlot};
 
 // 01: "4 header words, then 4 words for each of C slots".
@@ -65,6 +66,21 @@ pub fn put_slot(pool: &mut [u32], s: u32, c: Slot)
         put_word(pool, i + 2, c.right);
         put_word(pool, i + 3, c.weight);
     }
+}
+
+// One word of slot s.
+pub fn get_part(pool: &[u32], s: u32, part: Part) -> u32
+    ensures { λ r. ⌜ r ≡ partOf part (slotAt (now (pool .entry)) s) ⌝ }
+{
+    word(pool, SLOT_WORDS * (s as usize) + part.place())
+}
+
+// Of the words c one, to slot s.
+pub fn put_part(pool: &mut [u32], s: u32, part: Part, c: Slot)
+    ensures { λ _. ⌜ now (pool .exit) ≡ putPart (now (pool .entry)) s part c ⌝ }
+{
+    let i = SLOT_WORDS * (s as usize) + part.place();
+    put_word(pool, i, part.of(c));
 }
 
 pub fn get_header(pool: &[u32]) -> Header
