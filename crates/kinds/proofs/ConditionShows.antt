@@ -1,8 +1,7 @@
 -- The code's conditions are the tree's. Of an inner node of a tree that the words hold, `fits` says what `condition` says
 -- (`condition-holds`); and so, in words that show a sound State, of every inner node of its tree (`condition-shows`).
--- Why: the code reads the weights of the node, its children and its grandchildren, and 01's conditions speak of nothing else. A leaf
--- has no grandchildren to read, so what is read there is not its; but it is not red, and every condition asks for a grandchild below a
--- red child only. Assumes nothing.
+-- Why: the code reads the weights of the node, of its children and of the grandchildren below a red child, and 01's conditions speak of
+-- nothing else: every one that asks for a grandchild asks for it below a red child. Assumes nothing.
 use mathlib.Core.Path.{_≡_, refl, sym, ap, _∙_}
 use mathlib.Core.Bool.{true, not, false≢true, and-false}
 use mathlib.Core.List.{List}
@@ -22,27 +21,27 @@ use Rattle.format.proofs.Frame.{weight-of-root}
 use Rattle.kinds.specs.declared.Around.{Around}
 use Rattle.kinds.specs.Around.{aroundAt, mirrored}
 use Rattle.kinds.specs.Conditions.{fits, blackenFits, turns, lightenFits, lightenLeftFits}
-use Rattle.kinds.proofs.Seen.{around, around-is, Seen, seen-leaf, seen-node, seen, in-chromatic}
+use Rattle.kinds.proofs.Seen.{around, around-is, Seen, seen-other, seen-node, seen, in-chromatic}
 
 -- Around a node whose children l and r are seen so, the tests are 01's.
 condition-seen : (k : Kind) (v i : ℕ) (a : Around) {l r : Tree} → Seen (a .l .weight) l (a .ll) (a .lr .weight) → Seen (a .r .weight) r (a .rl .weight) (a .rr)
     → fits k a ≡ condition k (a .v .weight) (node v i (a .l .weight) l (a .r .weight) r)
 unfolding fits blackenFits turns lightenFits lightenLeftFits mirrored condition leftRed rightRed leftNotRed rightNotRed
-condition-seen Blacken v i a (seen-leaf e) y = rw e
-condition-seen Blacken v i a seen-node (seen-leaf e) = rw (e, and-false (red (a .l .weight)))
+condition-seen Blacken v i a (seen-other e) y = rw e
+condition-seen Blacken v i a seen-node (seen-other e) = rw (e, and-false (red (a .l .weight)))
 condition-seen Blacken v i a seen-node seen-node = refl
-condition-seen SingleLeft v i a (seen-leaf e) y = rw e
+condition-seen SingleLeft v i a (seen-other e) y = rw e
 condition-seen SingleLeft v i a seen-node y = refl
-condition-seen SingleRight v i a x (seen-leaf e) = rw e
+condition-seen SingleRight v i a x (seen-other e) = rw e
 condition-seen SingleRight v i a x seen-node = refl
-condition-seen DoubleLeft v i a (seen-leaf e) y = rw e
+condition-seen DoubleLeft v i a (seen-other e) y = rw e
 condition-seen DoubleLeft v i a seen-node y = refl
-condition-seen DoubleRight v i a x (seen-leaf e) = rw e
+condition-seen DoubleRight v i a x (seen-other e) = rw e
 condition-seen DoubleRight v i a x seen-node = refl
 condition-seen Lighten v i a x y = refl
-condition-seen LightenLeft v i a x (seen-leaf e) = rw (e, and-false (overweighted (a .l .weight)))
+condition-seen LightenLeft v i a x (seen-other e) = rw (e, and-false (overweighted (a .l .weight)))
 condition-seen LightenLeft v i a x seen-node = refl
-condition-seen LightenRight v i a (seen-leaf e) y = rw (e, and-false (overweighted (a .r .weight)))
+condition-seen LightenRight v i a (seen-other e) y = rw (e, and-false (overweighted (a .r .weight)))
 condition-seen LightenRight v i a seen-node y = refl
 
 condition-holds : (k : Kind) {p : List ℕ} {w : ℕ} {u : Tree} → not (isLeaf u) ≡ true → Holds p w u → Chromatic w u → fits k (aroundAt p (slotOf u)) ≡ condition k w u

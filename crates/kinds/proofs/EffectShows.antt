@@ -33,7 +33,7 @@ use Rattle.format.proofs.Shown.{shows-root, shows-level, shows-tree, shows-repl
 use Rattle.format.proofs.Cover.{tree-light}
 use Rattle.format.proofs.Writes.{wrote-length, wrote-other}
 use Rattle.kinds.specs.Around.{aroundAt}
-use Rattle.kinds.specs.Effects.{applied, effect, fallen, risen, blackened, lightened, levelAfter, headerAfter}
+use Rattle.kinds.specs.Effects.{putEffect, applied, effect, fallen, risen, blackened, lightened, levelAfter, headerAfter}
 use Rattle.kinds.proofs.Seen.{around-is, in-chromatic}
 use Rattle.kinds.proofs.Sides.{on-left, on-right}
 use Rattle.kinds.proofs.Written.{Makes, weighs, turned, doubled, lowered}
@@ -62,13 +62,13 @@ risen-edge false w h = rw (mod-eq-of-lt h) (omega arith)
 -- Kind 6, whichever child is overweighted.
 lightens : {p : List ℕ} {w v i wl wr : ℕ} {l r : Tree} → Holds p w (node v i wl l wr r) → ((s : ℕ) → count s (node v i wl l wr r) ≤ 1) → w + 1 < 2 ^ 32
     → (root : Bool) → Makes p (applied p v Lighten root (aroundAt p v)) (node v i wl l wr r) (edgeAfter root w (suc w)) (node v i (pred wl) l (pred wr) r)
-unfolding applied effect lightened
+unfolding applied putEffect effect lightened
 lightens {w = w} {wl = wl} {wr = wr} {l = l} {r = r} h c f root =
     rw (around-is h, weight-of-root wl l, weight-of-root wr r, risen-edge root w f) (weighs h c _ _ _)
 
 effect-holds : {k : Kind} {w q : ℕ} {u t : Tree} → Local k w u q t → {p : List ℕ} → Holds p w u → ((s : ℕ) → count s u ≤ 1) → w + 1 < 2 ^ 32
     → (root : Bool) → Makes p (applied p (slotOf u) k root (aroundAt p (slotOf u))) u (edgeAfter root w q) t
-unfolding slotOf applied effect blackened
+unfolding slotOf applied putEffect effect blackened
 effect-holds (blacken {p = w} x) h c f root = rw (around-is h, fallen-edge root w) (weighs h c _ 1 1)
 effect-holds (single-left {p = w}) h c f root = rw (edge-same root (suc w)) (turned on-left on-left on-left on-left h c root)
 effect-holds (single-right {p = w}) h c f root = rw (edge-same root (suc w)) (turned on-right on-right on-right on-right h c root)

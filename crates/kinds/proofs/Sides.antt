@@ -9,6 +9,8 @@ use Rattle.tree.specs.declared.Kind.{Kind}
 use Rattle.tree.specs.declared.Kind.the-variants.{SingleLeft, SingleRight, DoubleLeft, DoubleRight, LightenLeft, LightenRight}
 use Rattle.tree.specs.Tree.{Tree, node, slotOf, one, count}
 use Rattle.format.specs.declared.Slot.{Slot}
+use Rattle.format.specs.declared.Part.{Part}
+use Rattle.format.specs.declared.Part.the-variants.{Left, Right}
 use Rattle.format.specs.Words.{slot}
 use Rattle.format.specs.Shows.{At, Holds, holds-node}
 
@@ -37,6 +39,11 @@ double right = DoubleRight
 abbrev pub lighten : Side → Kind
 lighten left = LightenLeft
 lighten right = LightenRight
+
+-- the child word on the other side
+abbrev pub away : Side → Part
+away left = Right
+away right = Left
 
 pub on-count : {d : Side} {v i wn wf : ℕ} {n f t : Tree} → On d v i wn n wf f t → (s : ℕ) → count s t ≡ one (eqb s v) + count s n + count s f
 unfolding count

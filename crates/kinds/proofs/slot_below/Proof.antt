@@ -1,0 +1,23 @@
+-- `slot_below` meets its contract: below a red child what `get_slot` ensures, and below another nothing is read. Assumes nothing.
+use mathlib.Core.Path.{sym, _∙_}
+use borrow.Author.Needs.{needs}
+use Rattle.kinds.specs.Around.{slotBelow}
+use Rattle.kinds.proofs.slot_below.Statement.{statement}
+use Rattle.kinds.proofs.slot_below.Tie as tie
+
+red-requires : tie.Need-red-requires
+red-requires c κs = search needs
+
+get-slot-requires : tie.Need-get-slot-requires
+get-slot-requires c κs = search needs
+
+returns : tie.Need-returns
+unfolding slotBelow
+returns c = rw (sym (c .before .before .red .ensures) ∙ c .before .if1 .taken, slotBelow) (c .get-slot .ensures)
+
+returns-2 : tie.Need-returns-2
+unfolding slotBelow
+returns-2 c = rw (sym (c .before .red .ensures) ∙ c .if1 .left, slotBelow)
+
+pub slot-below-spec : {M : Type 1} → statement M
+slot-below-spec = tie.close (tie.spec red-requires get-slot-requires returns returns-2)
