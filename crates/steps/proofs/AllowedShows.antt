@@ -61,10 +61,10 @@ module _ {h : Header} {p : List ℕ} {S : State} (sound : Sound S) (shows : Show
   unfolding countTop
   inner-empty e = inner-absent (rw e)
 
--- the lowest step, as the code says it
-unfoldable pub lowestOf : Option (ℕ × Kind) → Lowest
-lowestOf (some a) = At (a .0) (a .1)
-lowestOf none = Nothing
+-- the lowest step, as the code says it: with what stands around it
+unfoldable pub lowestOf : List ℕ → Option (ℕ × Kind) → Lowest
+lowestOf p (some a) = At (a .0) (a .1) (aroundAt p (a .0))
+lowestOf p none = Nothing
 
 module _ (S : State) (t : Tree) (sound : Sound S) (e : S .top ≡ full t) {h : Header} (p : List ℕ) (shows : Shows h p S) where
   pub inner-shows : (s : ℕ) → innerAt p s ≡ innerIn s 1 t
@@ -104,16 +104,16 @@ module _ (S : State) (t : Tree) (sound : Sound S) (e : S .top ≡ full t) {h : H
   kind-shows [] s = refl
   kind-shows (k ∷ ks) s = rw (allowed-shows k s, firstKind) (ap (λ o. elim (allowed s k t) [ true ↦ some k | false ↦ o ]) (kind-shows ks s))
 
-  from-shows : (n s : ℕ) → firstFrom n h p s ≡ lowestOf (lowestStep n s t)
+  from-shows : (n s : ℕ) → firstFrom n h p s ≡ lowestOf p (lowestStep n s t)
   unfolding firstFrom lowestStep lowestOf
   from-shows zero s = refl
   from-shows (suc n) s = rw (kind-shows kinds s, firstFrom) (go (lowestKind kinds s t) (from-shows n (suc s)))
     where
-      go : (o : Option Kind) → firstFrom n h p (suc s) ≡ lowestOf (lowestStep n (suc s) t)
-          → elim o [ some k ↦ At s k | none ↦ firstFrom n h p (suc s) ] ≡ lowestOf (elim o [ some k ↦ some (s, k) | none ↦ lowestStep n (suc s) t ])
+      go : (o : Option Kind) → firstFrom n h p (suc s) ≡ lowestOf p (lowestStep n (suc s) t)
+          → elim o [ some k ↦ At s k (aroundAt p s) | none ↦ firstFrom n h p (suc s) ] ≡ lowestOf p (elim o [ some k ↦ some (s, k) | none ↦ lowestStep n (suc s) t ])
       go (some k) rest = refl
       go none rest = rest
 
-  pub first-shows : firstAllowed h p ≡ lowestOf (lowestStep (S .slots) 1 t)
+  pub first-shows : firstAllowed h p ≡ lowestOf p (lowestStep (S .slots) 1 t)
   unfolding firstAllowed
   first-shows = rw (last-slot-is sound shows) (from-shows (S .slots) 1)

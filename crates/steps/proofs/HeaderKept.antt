@@ -20,6 +20,7 @@ use Rattle.format.specs.declared.Header.{Header}
 use Rattle.format.specs.Words.{atLevel, headerOf, putHeader, slotAt, lastSlot}
 use Rattle.format.specs.Performing.{Written, written, wordsAfter}
 use Rattle.format.proofs.Slots.{level-alone}
+use Rattle.kinds.specs.declared.Around.{Around}
 use Rattle.kinds.specs.Around.{aroundAt}
 use Rattle.kinds.specs.Conditions.{fits}
 use Rattle.kinds.specs.Effects.{headerAfter}
@@ -43,9 +44,9 @@ kept-more {P} {Q} {R} a b = record {
 }
 
 -- an effect at a slot
-kept-step : (P : Pool) (s : ℕ) (k : Kind) → 1 ≤ s → Kept P (poolOf (headerAfter k s (P .header)) (takenWords (P .header .root) (P .words) s k))
-unfolding takenWords headerAfter
-kept-step P s k h = record { words-kept = applied-header (P .words) s k _ _ h; header-kept = refl }
+kept-step : (P : Pool) (s : ℕ) (k : Kind) (a : Around) → 1 ≤ s → Kept P (poolOf (headerAfter k s (P .header)) (takenWords (P .header .root) (P .words) s k a))
+unfolding headerAfter
+kept-step P s k a h = record { words-kept = applied-header (P .words) s k _ _ h; header-kept = refl }
 
 left : Written → Pool
 left w = poolOf (w .result .header) (w .words)
@@ -60,15 +61,15 @@ level-written p w k =
 -- Step.
 module _ (p : List ℕ) (h : Header) (s : ℕ) where
   kind-kept : 1 ≤ s → (k : Kind) → Kept (poolOf h p) (left (stepKind p h s (slotAt p s) k))
-  unfolding stepKind left takenWords
+  unfolding stepKind left
   kind-kept i k = go (fits k (aroundAt p s)) (limitAt k h s)
     where
       go : (a b : Bool) → Kept (poolOf h p) (left (elim a [
-        | true ↦ elim b [ true ↦ written p (Refused LevelLimit) h | false ↦ written (takenWords (h .root) p s k) (Done (kindNumber k)) (headerAfter k s h) ]
+        | true ↦ elim b [ true ↦ written p (Refused LevelLimit) h | false ↦ written (takenWords (h .root) p s k (aroundAt p s)) (Done (kindNumber k)) (headerAfter k s h) ]
         | false ↦ written p (Refused ConditionFalse) h
       ]))
       go true true = kept-same (poolOf h p)
-      go true false = kept-step (poolOf h p) s k i
+      go true false = kept-step (poolOf h p) s k (aroundAt p s) i
       go false b = kept-same (poolOf h p)
 
   named-kept : 1 ≤ s → (m : Named) → Kept (poolOf h p) (left (stepNamed p h s m))
@@ -92,19 +93,19 @@ pub step-words : (p : List ℕ) (s n : ℕ) → stepWords p s n ≡ wordsAfter (
 unfolding stepWords
 step-words p s n = level-written p (stepUnder p (headerOf p) s n) (step-kept p (headerOf p) s n)
 
-at-slot : {s v : ℕ} {j k : Kind} → At s j ≡ At v k → s ≡ v
+at-slot : {s v : ℕ} {j k : Kind} {a b : Around} → At s j a ≡ At v k b → s ≡ v
 at-slot e = cc
 
 some-is : {P Q : Pool} → some P ≡ some Q → P ≡ Q
 some-is e = cc
 
 -- Settle. The first slot found is not below the first one looked at.
-not-below : (h : Header) (p : List ℕ) (n s : ℕ) {v : ℕ} {k : Kind} → firstFrom n h p s ≡ At v k → s ≤ v
+not-below : (h : Header) (p : List ℕ) (n s : ℕ) {v : ℕ} {k : Kind} {a : Around} → firstFrom n h p s ≡ At v k a → s ≤ v
 unfolding firstFrom
-not-below h p zero s {v} {k} e = let z : _≡_ {A = ℕ} 0 1 = cc in absurd (omega arith)
-not-below h p (suc n) s {v} {k} e = go (firstKind kinds h p s) e (not-below h p n (suc s))
+not-below h p zero s {v} {k} {a} e = let z : _≡_ {A = ℕ} 0 1 = cc in absurd (omega arith)
+not-below h p (suc n) s {v} {k} {a} e = go (firstKind kinds h p s) e (not-below h p n (suc s))
   where
-    go : (o : Option Kind) → elim o [ some j ↦ At s j | none ↦ firstFrom n h p (suc s) ] ≡ At v k → (firstFrom n h p (suc s) ≡ At v k → suc s ≤ v) → s ≤ v
+    go : (o : Option Kind) → elim o [ some j ↦ At s j (aroundAt p s) | none ↦ firstFrom n h p (suc s) ] ≡ At v k a → (firstFrom n h p (suc s) ≡ At v k a → suc s ≤ v) → s ≤ v
     go (some j) f rest = omega (arith, at-slot f)
     go none f rest = omega (arith, rest f)
 
@@ -113,8 +114,8 @@ unfolding nextPool firstAllowed
 next-kept P Q e = go (firstAllowed (P .header) (P .words)) refl e
   where
     go : (f : Lowest) → firstAllowed (P .header) (P .words) ≡ f
-        → elim f [ At s k ↦ some (poolOf (headerAfter k s (P .header)) (takenWords (P .header .root) (P .words) s k)) | Nothing ↦ none ] ≡ some Q → Kept P Q
-    go (At s k) found same = rw (sym (some-is same)) (kept-step P s k (not-below (P .header) (P .words) (lastSlot (P .words)) 1 found))
+        → elim f [ At s k a ↦ some (poolOf (headerAfter k s (P .header)) (takenWords (P .header .root) (P .words) s k a)) | Nothing ↦ none ] ≡ some Q → Kept P Q
+    go (At s k a) found same = rw (sym (some-is same)) (kept-step P s k a (not-below (P .header) (P .words) (lastSlot (P .words)) 1 found))
     go Nothing found same = let z : _≡_ {A = ℕ} 0 1 = cc in absurd (omega arith)
 
 pools-kept : (b : ℕ) (P : Pool) → Kept P (lastOf P (poolsAfter b P))

@@ -22,6 +22,7 @@ use Rattle.format.specs.declared.Header.{Header}
 use Rattle.format.specs.Words.{lastSlot}
 use Rattle.format.specs.Shows.{Shows, PoolShows}
 use Rattle.format.proofs.Performing.{Does, does-pool}
+use Rattle.kinds.specs.Around.{aroundAt}
 use Rattle.kinds.specs.Effects.{headerAfter}
 use Rattle.kinds.proofs.EffectShows.{effect-shows}
 use Rattle.steps.specs.declared.Lowest.the-variants.{At, Nothing}
@@ -47,8 +48,7 @@ module _ (S : State) where
     both : {Q : Pool} {u : Tree} → Stands Q u → Next (some Q) (some u)
 
   step-stands : (P : Pool) (t : Tree) → Stands P t → (a : ℕ × Kind) → lowestStep (S .slots) 1 t ≡ some a
-      → Stands (poolOf (headerAfter (a .1) (a .0) (P .header)) (takenWords (P .header .root) (P .words) (a .0) (a .1))) (stepped (a .1) (a .0) t)
-  unfolding takenWords
+      → Stands (poolOf (headerAfter (a .1) (a .0) (P .header)) (takenWords (P .header .root) (P .words) (a .0) (a .1) (aroundAt (P .words) (a .0)))) (stepped (a .1) (a .0) t)
   step-stands P t x a e =
       let s = a .0 in
       let k = a .1 in
@@ -63,7 +63,7 @@ module _ (S : State) where
   next-shows P t x = rw (first-shows (with-tree S t) t (x .sound) refl (P .words) (x .shows), nextPool) (go (lowestStep (S .slots) 1 t) refl)
     where
       go : (o : Option (ℕ × Kind)) → lowestStep (S .slots) 1 t ≡ o → Next
-          (elim (lowestOf o) [ At s k ↦ some (poolOf (headerAfter k s (P .header)) (takenWords (P .header .root) (P .words) s k)) | Nothing ↦ none ])
+          (elim (lowestOf (P .words) o) [ At s k a ↦ some (poolOf (headerAfter k s (P .header)) (takenWords (P .header .root) (P .words) s k a)) | Nothing ↦ none ])
           (elim o [ some a ↦ some (stepped (a .1) (a .0) t) | none ↦ none ])
       go (some a) e = both (step-stands P t x a e)
       go none e = neither

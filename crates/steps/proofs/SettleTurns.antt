@@ -12,6 +12,7 @@ use Rattle.tree.specs.declared.Answer.the-variants.{Done, Spent}
 use Rattle.tree.specs.Settle.{lastOf, settled}
 use Rattle.format.specs.declared.Header.{Header}
 use Rattle.format.specs.Performing.{performed}
+use Rattle.kinds.specs.declared.Around.{Around}
 use Rattle.kinds.specs.Effects.{headerAfter}
 use Rattle.steps.specs.declared.Lowest.{Lowest}
 use Rattle.steps.specs.declared.Lowest.the-variants.{At, Nothing}
@@ -22,10 +23,10 @@ module _ (P : Pool) where
   unfolding nextPool
   next-none e = rw (e, nextPool)
 
-  next-some : (s : ℕ) (k : Kind) → firstAllowed (P .header) (P .words) ≡ At s k
-      → nextPool P ≡ some (poolOf (headerAfter k s (P .header)) (takenWords (P .header .root) (P .words) s k))
+  next-some : (s : ℕ) (k : Kind) (a : Around) → firstAllowed (P .header) (P .words) ≡ At s k a
+      → nextPool P ≡ some (poolOf (headerAfter k s (P .header)) (takenWords (P .header .root) (P .words) s k a))
   unfolding nextPool
-  next-some s k e = rw (e, nextPool)
+  next-some s k a e = rw (e, nextPool)
 
   pub after-none : (b : ℕ) → nextPool P ≡ none → poolsAfter b P ≡ []
   unfolding poolsAfter
@@ -57,10 +58,10 @@ module _ (h : Header) (b : ℕ) (p₀ : List ℕ) where
   begin = let e : b - 0 ≡ b = omega arith in record { taken = rw e (omega arith); last = rw e }
 
   module _ (n : ℕ) (P : Pool) (t : Turn n P) where
-    pub turn : {f : Lowest} → f ≡ firstAllowed (P .header) (P .words) → (s : ℕ) (k : Kind) → f ≡ At s k → n < b
-        → {g : Header} {q : List ℕ} → g ≡ headerAfter k s (P .header) → q ≡ takenWords (P .header .root) (P .words) s k → Turn (n + 1) (poolOf g q)
-    turn ef s k e l {g} {q} eg eq =
-        let next : nextPool P ≡ some (poolOf g q) = rw (eg, eq) (next-some P s k (sym ef ∙ e)) in
+    pub turn : {f : Lowest} → f ≡ firstAllowed (P .header) (P .words) → (s : ℕ) (k : Kind) (a : Around) → f ≡ At s k a → n < b
+        → {g : Header} {q : List ℕ} → g ≡ headerAfter k s (P .header) → q ≡ takenWords (P .header .root) (P .words) s k a → Turn (n + 1) (poolOf g q)
+    turn ef s k a e l {g} {q} eg eq =
+        let next : nextPool P ≡ some (poolOf g q) = rw (eg, eq) (next-some P s k a (sym ef ∙ e)) in
         let r = after-some P (b - n) (b - (n + 1)) (poolOf g q) (omega arith) next in
         record { taken = omega (arith, t .taken, ap length r); last = t .last ∙ last-some P (poolOf g q) r }
 
@@ -80,7 +81,7 @@ module _ (h : Header) (b : ℕ) (p₀ : List ℕ) where
         let x = next-none P (sym ef ∙ e) in
         settles (after-none P (b - n) x) none x
 
-    pub spent : {f : Lowest} → f ≡ firstAllowed (P .header) (P .words) → (s : ℕ) (k : Kind) → f ≡ At s k → n ≡ b
+    pub spent : {f : Lowest} → f ≡ firstAllowed (P .header) (P .words) → (s : ℕ) (k : Kind) (a : Around) → f ≡ At s k a → n ≡ b
         → (performed (Spent n) (P .header) ≡ (settleUnder p₀ h b) .result) × (P .words ≡ (settleUnder p₀ h b) .words)
     unfolding settled
-    spent ef s k e z = settles (after-spent P (b - n) (omega arith)) _ (next-some P s k (sym ef ∙ e))
+    spent ef s k a e z = settles (after-spent P (b - n) (omega arith)) _ (next-some P s k a (sym ef ∙ e))

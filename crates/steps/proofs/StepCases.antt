@@ -3,7 +3,6 @@
 use mathlib.Core.Path.{_≡_}
 use mathlib.Core.Bool.{true, false}
 use mathlib.Core.List.{List}
-use lib.Dec.{eqb}
 use Prim.Native.Nat.{ℕ}
 use Rattle.tree.specs.declared.Kind.{Kind}
 use Rattle.tree.specs.declared.Named.the-variants.{Known, Unknown}
@@ -16,8 +15,8 @@ use Rattle.format.specs.Words.{slotAt}
 use Rattle.format.specs.Performing.{written}
 use Rattle.kinds.specs.Around.{aroundOf}
 use Rattle.kinds.specs.Conditions.{fits}
-use Rattle.kinds.specs.Effects.{applied, headerAfter}
-use Rattle.steps.specs.Steps.{innerAt, limitAt, stepKind, stepNamed, stepUnder}
+use Rattle.kinds.specs.Effects.{headerAfter}
+use Rattle.steps.specs.Steps.{innerAt, limitAt, takenWords, stepKind, stepNamed, stepUnder}
 
 module _ (p : List ℕ) (h : Header) (s : ℕ) where
   module _ (n : ℕ) where
@@ -43,6 +42,6 @@ module _ (p : List ℕ) (h : Header) (s : ℕ) where
     kind-11 f l = rw (f, stepKind, l)
 
     pub kind-done : fits k (aroundOf p c) ≡ true → limitAt k h s ≡ false
-        → stepKind p h s c k ≡ written (applied p s k (eqb s (h .root)) (aroundOf p c)) (Done (kindNumber k)) (headerAfter k s h)
+        → stepKind p h s c k ≡ written (takenWords (h .root) p s k (aroundOf p c)) (Done (kindNumber k)) (headerAfter k s h)
     unfolding stepKind
     kind-done f l = rw (f, stepKind, l)

@@ -7,7 +7,6 @@
 use mathlib.Core.Path.{_≡_, refl, sym, _∙_}
 use mathlib.Core.Bool.{Bool, true, false}
 use mathlib.Core.List.{List}
-use lib.Dec.{eqb}
 use Prim.Native.Nat.{ℕ}
 use Rattle.tree.specs.declared.Kind.{Kind}
 use Rattle.tree.specs.declared.Named.{Named}
@@ -29,10 +28,10 @@ use Rattle.format.specs.Performing.{written}
 use Rattle.format.proofs.Performing.{Ends, refused as ended, done, entry-kept, Does, does-refused, does-pool}
 use Rattle.kinds.specs.Around.{aroundOf, aroundAt}
 use Rattle.kinds.specs.Conditions.{fits}
-use Rattle.kinds.specs.Effects.{applied, headerAfter}
+use Rattle.kinds.specs.Effects.{headerAfter}
 use Rattle.kinds.proofs.ConditionShows.{condition-shows}
 use Rattle.kinds.proofs.EffectShows.{effect-shows}
-use Rattle.steps.specs.Steps.{innerAt, limitAt, stepKind, stepNamed, stepUnder, stepAnswer, stepWords}
+use Rattle.steps.specs.Steps.{innerAt, limitAt, takenWords, stepKind, stepNamed, stepUnder, stepAnswer, stepWords}
 use Rattle.steps.proofs.HeaderKept.{step-words}
 use Rattle.steps.proofs.LevelShows.{limit-shows}
 use Rattle.steps.proofs.AllowedShows.{inner-shows, inner-empty}
@@ -84,7 +83,7 @@ unfolding stepKind
 kind-ends p h s c k = go (fits k (aroundOf p c)) (limitAt k h s)
   where
     go : (b l : Bool) → Ends p h (elim b [
-      | true ↦ elim l [ true ↦ written p (Refused LevelLimit) h | false ↦ written (applied p s k (eqb s (h .root)) (aroundOf p c)) (Done (kindNumber k)) (headerAfter k s h) ]
+      | true ↦ elim l [ true ↦ written p (Refused LevelLimit) h | false ↦ written (takenWords (h .root) p s k (aroundOf p c)) (Done (kindNumber k)) (headerAfter k s h) ]
       | false ↦ written p (Refused ConditionFalse) h
     ])
     go true true = ended

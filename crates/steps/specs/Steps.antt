@@ -48,9 +48,9 @@ allowedAround k h s a = fits k a && not (limitAt k h s)
 unfoldable pub allowedWords : Kind → Header → List ℕ → ℕ → Bool
 allowedWords k h p s = innerAt p s && allowedAround k h s (aroundAt p s)
 
--- the words after the effect of kind k at slot s
-unfoldable pub takenWords : ℕ → List ℕ → ℕ → Kind → List ℕ
-takenWords root p s k = applied p s k (eqb s root) (aroundAt p s)
+-- the words after the effect of kind k at slot s, around which a stands
+abbrev pub takenWords : ℕ → List ℕ → ℕ → Kind → Around → List ℕ
+takenWords root p s k a = applied p s k (eqb s root) a
 
 -- RULES 4.10: kind k at an inner node in slot s, whose words are c. "Codes 5 to 11 change no pool word; lowest code first." 10: "condition
 -- false"; 11: "kind 1 at the root with L = 255".
@@ -60,7 +60,7 @@ stepKind p h s c k =
     elim (fits k a) [
       | true ↦ elim (limitAt k h s) [
         | true ↦ written p (Refused LevelLimit) h
-        | false ↦ written (applied p s k (eqb s (h .root)) a) (Done (kindNumber k)) (headerAfter k s h)
+        | false ↦ written (takenWords (h .root) p s k a) (Done (kindNumber k)) (headerAfter k s h)
       ]
       | false ↦ written p (Refused ConditionFalse) h
     ]
@@ -79,10 +79,10 @@ unfoldable pub firstKind : List Kind → Header → List ℕ → ℕ → Option 
 firstKind [] h p s = none
 firstKind (k ∷ ks) h p s = elim (allowedWords k h p s) [ true ↦ some k | false ↦ firstKind ks h p s ]
 
--- RULES 5.2: "the lowest slot with an allowed kind, and there the lowest kind", among the n slots from s on
+-- RULES 5.2: "the lowest slot with an allowed kind, and there the lowest kind", among the n slots from s on, with what stands around it
 unfoldable pub firstFrom : ℕ → Header → List ℕ → ℕ → Lowest
 firstFrom zero h p s = Nothing
-firstFrom (suc n) h p s = elim (firstKind kinds h p s) [ some k ↦ At s k | none ↦ firstFrom n h p (suc s) ]
+firstFrom (suc n) h p s = elim (firstKind kinds h p s) [ some k ↦ At s k (aroundAt p s) | none ↦ firstFrom n h p (suc s) ]
 
 unfoldable pub firstAllowed : Header → List ℕ → Lowest
 firstAllowed h p = firstFrom (lastSlot p) h p 1
@@ -97,7 +97,7 @@ poolOf h p = record { header = h; words = p }
 
 unfoldable pub nextPool : Pool → Option Pool
 nextPool P = let h = P .header in let p = P .words in elim (firstAllowed h p) [
-  | At s k ↦ some (poolOf (headerAfter k s h) (takenWords (h .root) p s k))
+  | At s k a ↦ some (poolOf (headerAfter k s h) (takenWords (h .root) p s k a))
   | Nothing ↦ none
 ]
 

@@ -45,7 +45,7 @@ returns-2 c =
     let at = c .before .before in
     let found = at .before .before in
     let loop = found .before .before in
-    spent _ _ _ _ _ (loop .loop .inv .2) (found .first-allowed .ensures) _ _ (at .s .given .1) (c .if1 .taken)
+    spent _ _ _ _ _ (loop .loop .inv .2) (found .first-allowed .ensures) _ _ _ (at .s .given .1) (c .if1 .taken)
 
 take-step-requires : tie.Need-take-step-requires Inv-loop μ-loop
 take-step-requires c κs = search needs
@@ -64,7 +64,7 @@ loop-again c =
     let loop = found .before .before in (
       omega arith,
       step .take-step .kept .0 ∙ loop .loop .inv .1,
-      turn _ _ _ _ _ (loop .loop .inv .2) (found .first-allowed .ensures) _ _ (at .s .given .1) (omega arith) (step .take-step .ensures .0) (step .take-step .ensures .1),
+      turn _ _ _ _ _ (loop .loop .inv .2) (found .first-allowed .ensures) _ _ _ (at .s .given .1) (omega arith) (step .take-step .ensures .0) (step .take-step .ensures .1),
     )
 
 pub settle-under-spec : {M : Type 1} → statement M

@@ -40,27 +40,25 @@ returns-2 c =
     let h = past-10 .before .before .before .before .before .args .h in
     rw (kind-11 _ h _ _ _ (fitting past-10) (sym (limit .at-limit .ensures) ∙ c .if2 .taken)) (refl, refl)
 
-apply-requires : tie.Need-apply-requires
-apply-requires c κs = search needs
-
 number-requires : tie.Need-number-requires
 number-requires c κs = search needs
 
-header-after-requires : tie.Need-header-after-requires
-header-after-requires c κs = search needs
+take-step-requires : tie.Need-take-step-requires
+take-step-requires c κs = search needs
 
 same-length-3 : tie.Need-same-length-3
 same-length-3 c = search needs
 
 returns-3 : tie.Need-returns-3
 returns-3 c =
-    let write = c .before .before .before .before in
-    let past-11 = write .before .before .before in
+    let take = c .before .before in
+    let number = take .before .before in
+    let past-11 = number .before in
     let limit = past-11 .before in
     let past-10 = limit .before in
     let look = past-10 .before .before in
     let done = kind-done _ (look .before .before .before .args .h) _ _ _ (fitting past-10) (sym (limit .at-limit .ensures) ∙ past-11 .if2 .left) in
-    rw (done, write .apply .ensures, look .look .ensures, c .before .number .ensures, c .header-after .ensures) (refl, refl)
+    rw (done, take .take-step .ensures .0, take .take-step .ensures .1, look .look .ensures, number .number .ensures) (refl, refl)
 
 pub step-kind-spec : {M : Type 1} → statement M
 step-kind-spec =
@@ -73,8 +71,7 @@ step-kind-spec =
     at-limit-requires
     same-length-2
     returns-2
-    apply-requires
     number-requires
-    header-after-requires
+    take-step-requires
     same-length-3
     returns-3)
