@@ -6,7 +6,9 @@
  * A command runs in a batch of its own. What it did itself is the difference to the same call on the same pool with a command that needs no
  * word, a step at a slot above C: the audit, and the header as the call takes it and puts it back, are in both. (An empty batch will not do:
  * there the compiler reads the header otherwise.) That such a call touches no slot beyond its audit is one of the verdicts.
- * The taking of a step by settle is the settle with budget 1, less its two scans: the settles with budget 0 before the step and after it. */
+ * A step by settle is tried with v in slot 1, where the scan begins, so that the settle with budget 0 is its look at v and nothing else. The
+ * settle with budget 1 looks, takes the step and scans once more; that scan, which is the settle with budget 0 on the pool afterwards, is
+ * taken off. */
 #include "../include/chromatic.h"
 #include <inttypes.h>
 #include <stdio.h>
@@ -178,16 +180,6 @@ static struct call settle(const struct pool *on, uint8_t budget) {
     return own(on, command, sizeof command);
 }
 
-/* A step taken by settle. The scan after it is taken off; that before it too, unless it is a look at slot 1 alone, and that look is wanted. */
-static struct call taking(const struct pool *on, int with_look) {
-    struct call c = settle(on, 1);
-    const struct call scan_before = settle(on, 0), scan_after = settle(&c.after, 0);
-
-    c.touched = less(c.touched, &scan_after.touched);
-    if (!with_look) c.touched = less(c.touched, &scan_before.touched);
-    return c;
-}
-
 static struct pool loaded(const uint8_t *saved, size_t bytes) {
     struct pool pool = {CHROMATIC_POOL_WORDS(saved[0]), {0}};
 
@@ -197,8 +189,8 @@ static struct pool loaded(const uint8_t *saved, size_t bytes) {
 
 /* Rows. */
 
-enum form { IDLE, COMMAND, STEP, TAKING, LOOK_AND_TAKING, FORMS };
-static const char *const groups[FORMS] = {"a call", "another command", "a step command", "a step taken by settle, its scans apart", "the same with settle's look at v"};
+enum form { IDLE, COMMAND, STEP, SETTLED, TAKING, FORMS };
+static const char *const groups[FORMS] = {"a call", "another command", "a step command", "a step by settle: look and taking", "a step by settle: the taking alone"};
 
 struct row {
     enum form form;
@@ -207,6 +199,7 @@ struct row {
     uint32_t code, number; /* as they should be */
     int as_the_step;       /* whether the pool is as a step command leaves it */
     struct call c;
+    struct counts look; /* of a taking: what was read and written before */
 };
 
 static struct row rows[200];
@@ -240,7 +233,7 @@ enum { MOST_BYTES = 2 + 2 * 15 };
 
 /* A step that is accepted. */
 struct stepped {
-    uint8_t kind, slot, first; /* whether settle takes it first */
+    uint8_t kind, slot, lowest; /* whether no lower kind is allowed there, so that settle takes it */
     uint8_t saved[MOST_BYTES];
     const char *where;
 };
@@ -262,7 +255,7 @@ static const struct stepped steps[] = {
     {4, 1, 0, {9, 9, INNER(1, 40), INNER(0, 20), INNER(0, 10), LEAF(1, 10), LEAF(1, 20), INNER(0, 30), LEAF(1, 30), LEAF(1, 40), LEAF(1, 50)}, "the root, a red too"},
     {4, 2, 1, {11, 11, INNER(1, 40), INNER(1, 30), INNER(0, 10), LEAF(1, 10), INNER(0, 20), LEAF(1, 20), LEAF(1, 30), LEAF(1, 40), INNER(1, 50), LEAF(1, 50), LEAF(1, 60)}, "its left child"},
     {4, 5, 1, {12, 11, INNER(1, 8), INNER(1, 5), LEAF(1, 5), LEAF(1, 8), INNER(1, 30), INNER(0, 10), LEAF(1, 10), INNER(0, 20), LEAF(1, 20), LEAF(1, 30), LEAF(1, 40)}, "its right child, a slot free"},
-    {4, 2, 0, {9, 9, INNER(1, 40), INNER(2, 30), INNER(0, 10), LEAF(1, 10), INNER(0, 20), LEAF(1, 20), LEAF(1, 30), LEAF(1, 40), LEAF(3, 50)}, "its left child, of weight 2"},
+    {4, 2, 1, {9, 9, INNER(1, 40), INNER(2, 30), INNER(0, 10), LEAF(1, 10), INNER(0, 20), LEAF(1, 20), LEAF(1, 30), LEAF(1, 40), LEAF(3, 50)}, "its left child, of weight 2"},
     {5, 1, 1, {7, 7, INNER(1, 10), LEAF(1, 10), INNER(0, 30), INNER(0, 20), LEAF(1, 20), LEAF(1, 30), LEAF(1, 40)}, "the root, leaves below u and t, r a leaf"},
     {5, 1, 1, {11, 11, INNER(1, 10), LEAF(2, 10), INNER(0, 50), INNER(0, 30), INNER(1, 20), LEAF(1, 20), LEAF(1, 30), INNER(1, 40), LEAF(1, 40), LEAF(1, 50), LEAF(2, 60)}, "the root, inner nodes below t, a and r leaves of weight 2"},
     {5, 1, 1, {11, 11, INNER(1, 10), LEAF(1, 10), INNER(0, 50), INNER(0, 30), INNER(0, 20), LEAF(1, 20), LEAF(1, 30), INNER(0, 40), LEAF(1, 40), LEAF(1, 50), LEAF(1, 60)}, "the root, red nodes below t"},
@@ -272,7 +265,7 @@ static const struct stepped steps[] = {
     {5, 1, 0, {9, 9, INNER(1, 10), LEAF(1, 10), INNER(0, 30), INNER(0, 20), LEAF(1, 20), LEAF(1, 30), INNER(0, 40), LEAF(1, 40), LEAF(1, 50)}, "the root, a red too"},
     {5, 2, 1, {11, 11, INNER(1, 40), INNER(1, 10), LEAF(1, 10), INNER(0, 30), INNER(0, 20), LEAF(1, 20), LEAF(1, 30), LEAF(1, 40), INNER(1, 50), LEAF(1, 50), LEAF(1, 60)}, "its left child"},
     {5, 5, 1, {12, 11, INNER(1, 8), INNER(1, 5), LEAF(1, 5), LEAF(1, 8), INNER(1, 10), LEAF(1, 10), INNER(0, 30), INNER(0, 20), LEAF(1, 20), LEAF(1, 30), LEAF(1, 40)}, "its right child, a slot free"},
-    {5, 2, 0, {9, 9, INNER(1, 40), INNER(2, 10), LEAF(1, 10), INNER(0, 30), INNER(0, 20), LEAF(1, 20), LEAF(1, 30), LEAF(1, 40), LEAF(3, 50)}, "its left child, of weight 2"},
+    {5, 2, 1, {9, 9, INNER(1, 40), INNER(2, 10), LEAF(1, 10), INNER(0, 30), INNER(0, 20), LEAF(1, 20), LEAF(1, 30), LEAF(1, 40), LEAF(3, 50)}, "its left child, of weight 2"},
     {6, 1, 1, {3, 3, INNER(1, 10), LEAF(9, 10), LEAF(9, 20)}, "the root, over leaves"},
     {6, 2, 1, {9, 9, INNER(1, 30), INNER(1, 20), LEAF(2, 20), INNER(1, 25), LEAF(1, 25), LEAF(1, 30), INNER(1, 40), LEAF(2, 40), LEAF(2, 50)}, "below it"},
     {7, 1, 1, {9, 9, INNER(1, 10), LEAF(2, 10), INNER(0, 30), INNER(1, 20), LEAF(1, 20), LEAF(1, 30), INNER(1, 40), LEAF(1, 40), LEAF(1, 50)}, "the root"},
@@ -285,35 +278,64 @@ static size_t saved_bytes(const uint8_t *saved) {
     return 2 + 2 * (size_t)saved[1];
 }
 
-static struct row *step_row(enum form form, const struct stepped *step, struct call c) {
+/* The same tree with two slots exchanged. */
+static uint32_t renamed(uint32_t slot, uint32_t a, uint32_t b) {
+    return slot == a ? b : slot == b ? a : slot;
+}
+static struct pool exchanged(const struct pool *from, uint32_t a, uint32_t b) {
+    struct pool to = *from;
+
+    to.word[0] = renamed(from->word[0], a, b);
+    to.word[1] = renamed(from->word[1], a, b);
+    for (uint32_t slot = 1; slot < from->words / SLOT; slot++) {
+        const uint32_t *old = &from->word[SLOT * slot];
+        uint32_t *new = &to.word[SLOT * renamed(slot, a, b)];
+        new[KEY] = old[KEY];
+        new[LEFT] = renamed(old[LEFT], a, b);
+        new[RIGHT] = renamed(old[RIGHT], a, b);
+        new[WEIGHT] = old[WEIGHT];
+    }
+    return to;
+}
+
+static struct row *step_row(enum form form, const struct stepped *step, const struct call *c) {
     char what[80];
     struct row *row;
 
     snprintf(what, sizeof what, "kind %d: %s", step->kind, step->where);
     row = new_row(form, what);
-    row->slot = step->slot;
     row->kind = step->kind;
-    row->c = c;
+    row->c = *c;
     return row;
 }
 
-static void settle_row(enum form form, const struct stepped *step, const struct pool *on, const struct pool *after) {
-    struct row *row = step_row(form, step, taking(on, form == LOOK_AND_TAKING));
+/* By settle. `after` is how a step command leaves this pool; v is slot 1. */
+static void settle_rows(const struct stepped *step, const struct pool *on, const struct pool *after) {
+    const struct call look = settle(on, 0), whole = settle(on, 1), scan_after = settle(&whole.after, 0);
 
-    row->code = row->c.code == CHROMATIC_BUDGET_SPENT ? CHROMATIC_BUDGET_SPENT : CHROMATIC_GOOD; /* as more steps are left or not */
-    row->number = 1;
-    row->as_the_step = memcmp(&row->c.after, after, sizeof *after) == 0;
+    for (enum form form = SETTLED; form <= TAKING; form++) {
+        struct row *row = step_row(form, step, &whole);
+        row->slot = 1;
+        row->code = whole.code == CHROMATIC_BUDGET_SPENT ? CHROMATIC_BUDGET_SPENT : CHROMATIC_GOOD; /* as more steps are left or not */
+        row->number = 1;
+        row->as_the_step = memcmp(&whole.after, after, sizeof *after) == 0;
+        row->c.touched = less(row->c.touched, &scan_after.touched);
+        if (form == TAKING) row->c.touched = less(row->c.touched, &look.touched);
+        row->look = look.touched;
+    }
 }
 
 static void step_rows(const struct stepped *step) {
-    const struct pool pool = loaded(step->saved, saved_bytes(step->saved));
+    const struct pool pool = loaded(step->saved, saved_bytes(step->saved)), from_slot_1 = exchanged(&pool, step->slot, 1);
     const uint8_t command[] = {CHROMATIC_STEP, step->slot, step->kind};
-    struct row *row = step_row(STEP, step, own(&pool, command, sizeof command));
+    const struct call c = own(&pool, command, sizeof command);
+    const struct pool after = exchanged(&c.after, step->slot, 1);
+    struct row *row = step_row(STEP, step, &c);
 
+    row->slot = step->slot;
     row->number = step->kind;
     row->as_the_step = 1;
-    if (step->first) settle_row(TAKING, step, &pool, &row->c.after);
-    if (step->first && step->slot == 1) settle_row(LOOK_AND_TAKING, step, &pool, &row->c.after);
+    if (step->lowest) settle_rows(step, &from_slot_1, &after);
 }
 
 /* Other commands, and steps that are refused. */
@@ -471,20 +493,19 @@ static void six_words(const struct row *row, int *six) {
 
 static void judge_row(const struct row *row) {
     const struct counts *touched = &row->c.touched;
-    const int32_t most = row->form == TAKING ? 0 : 1;
     int six[MOST_WORDS] = {0}, again[MOST_WORDS] = {0}, not_once[MOST_WORDS] = {0}, same[MOST_WORDS] = {0}, other[MOST_WORDS] = {0}, read[MOST_WORDS] = {0},
         written[MOST_WORDS] = {0};
 
     six_words(row, six);
     for (size_t word = 0; word < MOST_WORDS; word++) {
-        again[word] = word >= HEADER && touched->reads[word] > most;
+        again[word] = word >= HEADER && touched->reads[word] + (row->form == TAKING ? row->look.reads[word] : 0) > 1;
         not_once[word] = six[word] && touched->writes[word] != 1;
         same[word] = six[word] && !changed(&row->c, word);
         other[word] = word >= HEADER && !six[word] && touched->writes[word] != 0;
         read[word] = word < HEADER && touched->reads[word] != 0;
         written[word] = word < HEADER && touched->writes[word] != 0;
     }
-    no_word(row, again, touched->reads, row->form == TAKING ? "read again" : "read more than once");
+    no_word(row, again, touched->reads, row->form == TAKING ? "read again after the look" : "read more than once");
     no_word(row, read, touched->reads, "read of the header");
     no_word(row, not_once, touched->writes, "of the six words, not written once");
     no_word(row, same, touched->writes, "of the six words, with the value that it had");
@@ -494,17 +515,19 @@ static void judge_row(const struct row *row) {
 
 static void judge_kind(enum form form, uint32_t kind) {
     const int failed_before = failed;
-    int pools = 0;
+    int pools = 0, reads = 0;
 
     for (size_t i = 0; i < row_count; i++) {
         if (rows[i].form != form || rows[i].kind != kind) continue;
         judge_row(&rows[i]);
+        reads += summed(rows[i].c.touched.reads).all;
         pools++;
     }
     if (pools == 0) stop("a kind without a pool");
     if (failed > failed_before) return;
-    printf("passed: %s, kind %" PRIu32 ", %d pools: %s; the six words written, each once and with another value; no other word; no header word\n",
-           groups[form], kind, pools, form == TAKING ? "no word read" : "each word read once at most");
+    printf("passed: %s, kind %" PRIu32 ", %d pools: ", groups[form], kind, pools);
+    printf("%s; ", reads == 0 ? "no word read" : form == TAKING ? "no word read again" : "each word read once at most");
+    puts("the six words written, each once and with another value; no other word; no header word");
 }
 
 static int known_are_counted(void) {
@@ -564,7 +587,7 @@ static void perform_or_count(void) {
 }
 
 static void print_all(void) {
-    static const enum form printed[] = {IDLE, STEP, TAKING, LOOK_AND_TAKING, COMMAND};
+    static const enum form printed[] = {IDLE, STEP, SETTLED, TAKING, COMMAND};
 
     puts("Columns: reads, of how many words, how often the word that is read most; writes, to how many words, how many of these have another value");
     puts("than before; words of the header that are read, and written. v is the node of the step, u its red child, t u's red child; a is u's other child");
