@@ -148,7 +148,7 @@ impl Met {
         [&single[..], &self.inner_around, &self.overweighted_around].concat().as_flattened().iter().all(|&met| met >= times)
     }
 
-    /// Every step of these kinds that a pool allows, and settle where it takes one.
+    /// Every step of these kinds that a pool allows, and settle where it takes one; and settle where it takes more.
     fn all_of(&mut self, pair: &Pair, seen: &mut Seen) {
         let allowed = pair.twin.allowed();
         let double = |&(_, kind): &(u32, u32)| kind == 4 || kind == 5;
@@ -160,6 +160,12 @@ impl Met {
             let settled = changes_six(pair, slot, kind, Settle(1), seen);
             assert_eq!(settled.words, changes_six(pair, slot, kind, Step(slot, kind), seen).words);
             self.by_settle[kind as usize - 4] += 1;
+        }
+        // One step after another: what settle hands on is of the pool as it is then.
+        if allowed.iter().any(double) {
+            for budget in [2, 3, u32::MAX] {
+                pair.clone().run_seen(Settle(budget), seen);
+            }
         }
     }
 }
