@@ -151,7 +151,7 @@ static struct call call(const struct pool *on, const uint8_t *command, size_t by
 }
 
 static struct counts less(struct counts a, const struct counts *b) {
-    for (size_t word = 0; word < MOST_WORDS; word++) {
+    for (size_t word = 0; counting && word < MOST_WORDS; word++) {
         a.reads[word] -= b->reads[word];
         a.writes[word] -= b->writes[word];
     }
@@ -278,10 +278,11 @@ static size_t saved_bytes(const uint8_t *saved) {
     return 2 + 2 * (size_t)saved[1];
 }
 
-/* The same tree with two slots exchanged. */
 static uint32_t renamed(uint32_t slot, uint32_t a, uint32_t b) {
     return slot == a ? b : slot == b ? a : slot;
 }
+
+/* The same tree with two slots exchanged. */
 static struct pool exchanged(const struct pool *from, uint32_t a, uint32_t b) {
     struct pool to = *from;
 
@@ -441,7 +442,7 @@ static void print_row(const struct row *row) {
     int others = 0;
 
     for (size_t word = 0; word < MOST_WORDS; word++) others += touched->writes[word] != 0 && changed(&row->c, word);
-    printf("%-66s %6" PRId32 " %6" PRId32 " %6" PRId32 "  %6" PRId32 " %6" PRId32 " %8d  %6" PRId32 " %8" PRId32 "\n", row->what, reads.all, reads.words, reads.most,
+    printf("%-66s %6" PRId32 " %6" PRId32 " %6" PRId32 "  %6" PRId32 " %6" PRId32 " %8d  %9" PRId32 " %9" PRId32 "\n", row->what, reads.all, reads.words, reads.most,
            writes.all, writes.words, others, reads.header, writes.header);
     if (each_word) {
         print_words("read", touched->reads);
@@ -450,7 +451,7 @@ static void print_row(const struct row *row) {
 }
 
 static void print_form(enum form form) {
-    printf("\n%-66s %6s %6s %6s  %6s %6s %8s  %6s %8s\n", groups[form], "reads", "words", "most", "writes", "words", "changed", "header", "header");
+    printf("\n%-66s %6s %6s %6s  %6s %6s %8s  %9s %9s\n", groups[form], "reads", "words", "most", "writes", "words", "changed", "header, r", "header, w");
     for (size_t i = 0; i < row_count; i++) {
         if (rows[i].form != form) continue;
         print_row(&rows[i]);
@@ -589,9 +590,9 @@ static void perform_or_count(void) {
 static void print_all(void) {
     static const enum form printed[] = {IDLE, STEP, SETTLED, TAKING, COMMAND};
 
-    puts("Columns: reads, of how many words, how often the word that is read most; writes, to how many words, how many of these have another value");
-    puts("than before; words of the header that are read, and written. v is the node of the step, u its red child, t u's red child; a is u's other child");
-    puts("and r v's.");
+    puts("Columns: reads, of how many words, how often the word that is read most; writes, to how many words, how many of these have another");
+    puts("value than before; words of the header that are read, and written. v is the node of the step, u its red child, t u's red child, a u's");
+    puts("other child, r v's.");
     for (size_t i = 0; i < sizeof printed / sizeof printed[0]; i++) print_form(printed[i]);
     putchar('\n');
     judge_rows();

@@ -163,7 +163,7 @@ impl Met {
         }
         // One step after another: what settle hands on is of the pool as it is then.
         if allowed.iter().any(double) {
-            for budget in [2, 3, u32::MAX] {
+            for budget in [2, 3, 40] {
                 pair.clone().run_seen(Settle(budget), seen);
             }
         }
