@@ -1,4 +1,4 @@
-# Shared by archive, test, bench and faults in this folder (sourced, POSIX sh): makes the archives that the Rust host links.
+# Shared by archive, test, accesses, bench and faults in this folder (sourced, POSIX sh): makes the archives that the Rust host links.
 #   make_archives    sets $native (folder of an archive for this machine's own processor) and $shipped (folder of the
 #                    archive that rt staticlib writes, for x86-64; empty where there is none)
 #   make_x86_rust    on aarch64: puts an x86-64 Rust below $HOST_CACHE and fits x86_cargo; fails with the cause in $why
@@ -23,6 +23,17 @@ target=$(CDPATH='' cd -P "$target" && pwd -P)
 need_cargo() {
     command -v cargo >/dev/null || die "cargo is not on the PATH"
     command -v cc >/dev/null || die "there is no C compiler, which cargo links with: apt-get install gcc libc6-dev"
+}
+
+c_program() { # NAME "STANDARD .." FOLDER: compiled with all warnings, and linked with that folder's archive
+    case $2 in
+    *++*) set -- "$@" c++ "-x c++ -Wold-style-cast -Wuseless-cast -Wzero-as-null-pointer-constant" ;;
+    *) set -- "$@" cc "-Wstrict-prototypes -Wmissing-prototypes -Wdeclaration-after-statement" ;;
+    esac
+    # What Rust's own library needs is for the cousin's archive; the library's needs nothing.
+    # shellcheck disable=SC2086
+    "$4" $2 $5 -Wall -Wextra -Wpedantic -Wconversion -Wsign-conversion -Wshadow -Wcast-qual -Wcast-align -Wundef -Wunused -Werror -Wno-unknown-warning-option \
+        -o "$target/$1" "$root/host/tests/$1.c" -x none -L "$3" -l"$lib" -lpthread -ldl -lm
 }
 
 # The cousin as an archive that stands in for the library's.

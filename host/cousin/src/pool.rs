@@ -47,6 +47,15 @@ impl Slot {
     pub fn is_leaf(self) -> bool {
         self.left == 0 && self.right == 0
     }
+
+    /// The child on a side, LEFT or RIGHT.
+    pub fn child(self, side: usize) -> u32 {
+        if side == LEFT {
+            self.left
+        } else {
+            self.right
+        }
+    }
 }
 
 #[inline]

@@ -25,7 +25,7 @@ fn weight(pool: &[u32], slot: u32) -> u32 {
     word(pool, slot, WEIGHT)
 }
 
-/// Left and right forms are one text: `side` is the word of the child that the kind speaks of.
+/// Left and right forms are one text: `side` is LEFT or RIGHT, that of the child that the kind speaks of.
 fn other(side: usize) -> usize {
     LEFT + RIGHT - side
 }
@@ -39,59 +39,97 @@ fn is_inner(slot: Slot) -> bool {
     slot.right != 0
 }
 
-/// The edges that conditions speak of: their weights, read once. A leaf has no red child.
+/// What a step at v looks at, each word read once. (What is always inlined below keeps it in registers. In memory the compiler copies a slot
+/// whole, and reads some of its words once more by themselves: `host/accesses` counts that.)
+#[derive(Clone, Copy)]
 struct Around {
-    p: u32,
-    child: [u32; 2],
-    /// Whether the child on a side has a red child on a side.
-    red_grandchild: [[bool; 2]; 2],
+    v: Slot,
+    left: Child,
+    right: Child,
 }
 
-const L: usize = 0;
-const R: usize = 1;
+/// A child of v. A red one is no leaf, and what lies below it decides too.
+#[derive(Clone, Copy)]
+struct Child {
+    words: Slot,
+    below_red: Option<Below>,
+}
+
+/// The children of a red child: of the one on its own side the weight, of the one between it and v's other child all words.
+#[derive(Clone, Copy)]
+struct Below {
+    outer: u32,
+    middle: Slot,
+}
+
+impl Child {
+    #[inline(always)]
+    fn read(pool: &[u32], slot: u32, side: usize) -> Child {
+        let words = read(pool, slot);
+        let below = || Below { outer: weight(pool, words.child(side)), middle: read(pool, words.child(other(side))) };
+        Child { words, below_red: (words.weight == 0).then(below) }
+    }
+}
 
 impl Around {
-    #[inline]
+    #[inline(always)]
     fn read(pool: &[u32], v: Slot) -> Around {
-        let (left, right) = (read(pool, v.left), read(pool, v.right));
-        let red_below = |u: Slot| [u.left, u.right].map(|t| t != 0 && weight(pool, t) == 0);
-        Around { p: v.weight, child: [left.weight, right.weight], red_grandchild: [red_below(left), red_below(right)] }
+        Around { v, left: Child::read(pool, v.left, LEFT), right: Child::read(pool, v.right, RIGHT) }
+    }
+
+    #[inline(always)]
+    fn child(&self, side: usize) -> &Child {
+        if side == LEFT {
+            &self.left
+        } else {
+            &self.right
+        }
     }
 
     fn red(&self, side: usize) -> bool {
-        self.child[side] == 0
+        self.child(side).below_red.is_some()
+    }
+
+    /// Whether the child on a side is red and has a red child on the same side.
+    fn outer_red(&self, side: usize) -> bool {
+        self.child(side).below_red.is_some_and(|below| below.outer == 0)
+    }
+
+    /// Whether the child on a side is red and has a red child on the other side.
+    fn middle_red(&self, side: usize) -> bool {
+        self.child(side).below_red.is_some_and(|below| below.middle.weight == 0)
     }
 
     fn overweighted(&self, side: usize) -> bool {
-        self.child[side] > 1
+        self.child(side).words.weight > 1
     }
 
-    #[inline]
+    #[inline(always)]
     fn condition(&self, kind: u32) -> bool {
         match kind {
-            1 => self.red(L) && self.red(R) && self.some_grandchild_red() && self.p != 0,
-            2 => self.rotates(L, L),
-            3 => self.rotates(R, R),
-            4 => self.rotates(L, R),
-            5 => self.rotates(R, L),
-            6 => !self.red(L) && !self.red(R) && (self.overweighted(L) || self.overweighted(R)),
-            7 => self.lightens(L),
-            _ => self.lightens(R),
+            1 => self.red(LEFT) && self.red(RIGHT) && self.some_grandchild_red() && self.v.weight != 0,
+            2 => self.rotates(LEFT) && self.outer_red(LEFT),
+            3 => self.rotates(RIGHT) && self.outer_red(RIGHT),
+            4 => self.rotates(LEFT) && self.middle_red(LEFT),
+            5 => self.rotates(RIGHT) && self.middle_red(RIGHT),
+            6 => !self.red(LEFT) && !self.red(RIGHT) && (self.overweighted(LEFT) || self.overweighted(RIGHT)),
+            7 => self.lightens(LEFT),
+            _ => self.lightens(RIGHT),
         }
     }
 
     fn some_grandchild_red(&self) -> bool {
-        self.red_grandchild != [[false; 2]; 2]
+        self.outer_red(LEFT) || self.middle_red(LEFT) || self.middle_red(RIGHT) || self.outer_red(RIGHT)
     }
 
-    /// Kinds 2 to 5: the child on `side` red, the other not, the grandchild on `inner` red, v not red.
-    fn rotates(&self, side: usize, inner: usize) -> bool {
-        self.red(side) && !self.red(1 - side) && self.red_grandchild[side][inner] && self.p != 0
+    /// Kinds 2 to 5, but for the red grandchild: the child on `side` red, the other not, v not red.
+    fn rotates(&self, side: usize) -> bool {
+        self.red(side) && !self.red(other(side)) && self.v.weight != 0
     }
 
     /// Kinds 7 and 8: the child t on `side` overweighted, the other child u red, u's child on `side` not red.
     fn lightens(&self, side: usize) -> bool {
-        self.overweighted(side) && self.red(1 - side) && !self.red_grandchild[1 - side][side]
+        self.overweighted(side) && self.red(other(side)) && !self.middle_red(other(side))
     }
 }
 
@@ -114,7 +152,9 @@ fn add_to_children(pool: &mut [u32], v: u32, by: i32) {
     add_to_weight(pool, child(pool, v, RIGHT), by);
 }
 
-fn effect(pool: &mut [u32], v: u32, kind: u32) {
+/// `around` is what lies around v. Kinds 4 and 5 read nothing more.
+#[inline(always)]
+fn effect(pool: &mut [u32], v: u32, around: &Around, kind: u32) {
     match kind {
         1 => {
             add_to_children(pool, v, 1);
@@ -126,8 +166,8 @@ fn effect(pool: &mut [u32], v: u32, kind: u32) {
         3 => {
             rotate(pool, v, RIGHT);
         }
-        4 => rotate_twice(pool, v, LEFT),
-        5 => rotate_twice(pool, v, RIGHT),
+        4 => rotate_twice(pool, v, around, LEFT),
+        5 => rotate_twice(pool, v, around, RIGHT),
         6 => {
             add_to_children(pool, v, -1);
             add_to_parent_edge(pool, v, 1);
@@ -155,17 +195,21 @@ fn rotate(pool: &mut [u32], v: u32, side: usize) -> u32 {
     u
 }
 
-/// Kind 4 (side left) and 5: t, u's inner child, takes v's router and its place beside u.
-fn rotate_twice(pool: &mut [u32], v: u32, side: usize) {
+/// Kind 4 (side left) and 5: t, u's inner child, takes v's router and its place beside u. Six words change; these are written.
+#[inline(always)]
+fn rotate_twice(pool: &mut [u32], v_slot: u32, around: &Around, side: usize) {
     let far = other(side);
-    let u = child(pool, v, side);
-    let t = child(pool, u, far);
-    let (above, middle) = (word(pool, v, KEY), word(pool, t, KEY));
-    let (t_near, t_far) = (child(pool, t, side), child(pool, t, far));
-    let v_far = child(pool, v, far);
-    fill(pool, v, middle, side, u, t);
-    put(pool, u, far, t_near);
-    fill(pool, t, above, side, t_far, v_far);
+    let (v, u) = (around.v, around.child(side));
+    let Some(Below { middle: t, .. }) = u.below_red else {
+        return; // the condition is that u is red
+    };
+    let (u_slot, t_slot) = (v.child(side), u.words.child(far));
+    put(pool, v_slot, KEY, t.key);
+    put(pool, v_slot, far, t_slot);
+    put(pool, u_slot, far, t.child(side));
+    put(pool, t_slot, KEY, v.key);
+    put(pool, t_slot, side, t.child(far));
+    put(pool, t_slot, far, v.child(far));
 }
 
 /// "single rotation, then kind 6 at the lowered node"
@@ -181,27 +225,38 @@ fn too_tall(pool: &[u32], v: u32, kind: u32) -> bool {
 }
 
 pub fn step(pool: &mut [u32], slot: u32, kind: u32) -> Answer {
-    if slot == 0 || slot > slots_of(pool) || !is_inner(read(pool, slot)) {
+    if slot == 0 || slot > slots_of(pool) {
+        return Answer::refused(code::NO_INNER_NODE);
+    }
+    let v = read(pool, slot);
+    if !is_inner(v) {
         return Answer::refused(code::NO_INNER_NODE);
     }
     if kind == 0 || kind > KINDS {
         return Answer::refused(code::NO_KIND);
     }
-    if !Around::read(pool, read(pool, slot)).condition(kind) {
+    let around = Around::read(pool, v);
+    if !around.condition(kind) {
         return Answer::refused(code::CONDITION_FALSE);
     }
     if too_tall(pool, slot, kind) {
         return Answer::refused(code::TOO_TALL);
     }
-    effect(pool, slot, kind);
+    effect(pool, slot, &around, kind);
     Answer::good(kind)
 }
 
-/// "the lowest slot with an allowed kind, and there the lowest kind"; slot 0 if no step is allowed.
+/// An allowed step, with what was read to find it.
+struct Found {
+    slot: u32,
+    kind: u32,
+    around: Around,
+}
+
+/// "the lowest slot with an allowed kind, and there the lowest kind"
 #[inline]
-pub fn first_allowed(pool: &[u32]) -> (u32, u32) {
-    let mut found = (0, 0);
-    'scan: for slot in 1..=slots_of(pool) {
+fn first_found(pool: &[u32]) -> Option<Found> {
+    for slot in 1..=slots_of(pool) {
         let v = read(pool, slot);
         if !is_inner(v) {
             continue;
@@ -209,25 +264,26 @@ pub fn first_allowed(pool: &[u32]) -> (u32, u32) {
         let around = Around::read(pool, v);
         for kind in 1..=KINDS {
             if around.condition(kind) && !too_tall(pool, slot, kind) {
-                found = (slot, kind);
-                break 'scan;
+                return Some(Found { slot, kind, around });
             }
         }
     }
-    found
+    None
+}
+
+/// The same without what was read; slot 0 if no step is allowed.
+pub fn first_allowed(pool: &[u32]) -> (u32, u32) {
+    first_found(pool).map_or((0, 0), |found| (found.slot, found.kind))
 }
 
 pub fn settle(pool: &mut [u32], budget: u32) -> Answer {
     let mut steps = 0;
-    loop {
-        let (slot, kind) = first_allowed(pool);
-        if slot == 0 {
-            return Answer::good(steps);
-        }
+    while let Some(found) = first_found(pool) {
         if steps == budget {
             return Answer { code: code::BUDGET_SPENT, number: steps };
         }
-        effect(pool, slot, kind);
+        effect(pool, found.slot, &found.around, found.kind);
         steps += 1;
     }
+    Answer::good(steps)
 }

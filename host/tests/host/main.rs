@@ -6,6 +6,7 @@
 mod api;
 mod causes;
 mod damage;
+mod double;
 mod hurtful;
 mod ledger;
 mod level;
