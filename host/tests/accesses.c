@@ -11,11 +11,12 @@
  * taken off. */
 #include "../include/chromatic.h"
 #include <inttypes.h>
+#include <stdatomic.h>
 #include <stdio.h>
 #include <stdlib.h>
 #include <string.h>
 
-enum { HEADER = 4, SLOT = 4, MOST_SLOTS = 31, MOST_WORDS = HEADER + SLOT * MOST_SLOTS };
+enum { HEADER = 4, SLOT = 4, MOST_SLOTS = 15, MOST_WORDS = HEADER + SLOT * MOST_SLOTS };
 enum { KEY, LEFT, RIGHT, WEIGHT };
 
 static union {
@@ -106,6 +107,13 @@ static void kept(void *what, size_t bytes) {
     if (counting ? fread(what, bytes, 1, log_file) != 1 : fwrite(what, bytes, 1, stdout) != 1) stop("the log cannot be read or written");
 }
 
+/* The fences keep the compiler from moving what stands before a mark to behind it, or the other way round. */
+static void set_mark(uint32_t value) {
+    atomic_signal_fence(memory_order_seq_cst);
+    mark = value;
+    atomic_signal_fence(memory_order_seq_cst);
+}
+
 /* Accesses that are known: `known_are_counted` says what they come to. */
 static void known_accesses(void) {
     volatile uint32_t *word = lent.word;
@@ -130,7 +138,7 @@ static struct call call(const struct pool *on, const uint8_t *command, size_t by
     c.before = c.after = *on;
     if (!counting) {
         memcpy(lent.word, on->word, sizeof lent.word);
-        mark = 1;
+        set_mark(1);
         if (on->words == 0) {
             known_accesses();
         } else if (bytes == 0) {
@@ -138,7 +146,7 @@ static struct call call(const struct pool *on, const uint8_t *command, size_t by
         } else {
             whole = chromatic_batch(lent.word, on->words, command, bytes, answer, CHROMATIC_ANSWER_WORDS);
         }
-        mark = 0;
+        set_mark(0);
         if (whole != 0) stop("a call is refused whole");
         memcpy(c.after.word, lent.word, sizeof lent.word);
     }
