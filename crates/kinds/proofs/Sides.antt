@@ -40,7 +40,11 @@ abbrev pub lighten : Side → Kind
 lighten left = LightenLeft
 lighten right = LightenRight
 
--- the child word on the other side
+-- the child word on the side, and on the other
+abbrev pub near : Side → Part
+near left = Left
+near right = Right
+
 abbrev pub away : Side → Part
 away left = Right
 away right = Left
