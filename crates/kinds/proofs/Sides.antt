@@ -49,6 +49,11 @@ abbrev pub away : Side → Part
 away left = Right
 away right = Left
 
+pub on-slot : {d : Side} {v i wn wf : ℕ} {n f t : Tree} → On d v i wn n wf f t → slotOf t ≡ v
+unfolding slotOf
+on-slot on-left = refl
+on-slot on-right = refl
+
 pub on-count : {d : Side} {v i wn wf : ℕ} {n f t : Tree} → On d v i wn n wf f t → (s : ℕ) → count s t ≡ one (eqb s v) + count s n + count s f
 unfolding count
 on-count on-left s = refl
