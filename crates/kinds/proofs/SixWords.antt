@@ -1,5 +1,8 @@
--- 02 (vi): "Kinds 4 and 5 should write only words whose value changes". In words that show a sound State a double rotation changes the six
--- words that it writes and no other (`double-changes`): none of them is written as it was. Assumes nothing.
+-- 02 (vi): "Kinds 4 and 5 should write only words whose value changes". In words that show a sound State a double rotation makes other words of
+-- the six that it writes, each once, and of no other (`double-changes`). And on any words, whatever is written, every word stays that stands at none of
+-- the six places (`double-others-stay`).
+-- Why: t's router is not v's, as t stands under v and has leaves on either side; and no slot stands in a tree twice, so the slots that take each
+-- other's places differ, and so do the places of the words. Left and right are one law over a side (Sides.antt). Assumes nothing.
 use mathlib.Core.Path.{_≡_, refl, sym, ap, _∙_}
 use mathlib.Core.Logic.{_≢_}
 use mathlib.Core.Bool.{Bool, true}
@@ -13,7 +16,7 @@ use Prim.Native.Nat.{ℕ, suc, _+_, _≤_, _<_}
 use Rattle.tree.specs.Tree.{Tree, node, slotOf, one, count, countIn, Ordered}
 use Rattle.tree.specs.Kinds.{conditionAt}
 use Rattle.tree.specs.State.{State, full, keyEnd, Sound}
-use Rattle.tree.proofs.Counts.{same-or-not, one-same, one-other, root-count, count-root}
+use Rattle.tree.proofs.Counts.{same-or-not, one-same, one-other, not-same, root-count, count-root}
 use Rattle.tree.proofs.Order.{ordered-bounds}
 use Rattle.tree.proofs.Relation.{Local, double-left, double-right, Step, here, in-left, in-right}
 use Rattle.tree.proofs.Steps.{made}
@@ -63,6 +66,30 @@ part-changed : {p q is : List ℕ} {s : ℕ} {d : Slot} → At p s d → Changed
 unfolding putPart
 part-changed {p} {s = s} h e x c new other =
     changed-more e (partWord s x) (partOf x c) new (omega (arith, place-small x, h .inside)) (rw (part-read p s x, h .content) other)
+
+-- On any words, whatever is to be written: a word that stands at none of the six places stays.
+part-other : (p : List ℕ) (s : ℕ) (x : Part) (c : Slot) (i : ℕ) → i ≢ partWord s x → getD (putPart p s x c) i 0 ≡ getD p i 0
+unfolding putPart
+part-other p s x c i n = getD-set-other p (partWord s x) i (partOf x c) 0 n
+
+only-other : (p : List ℕ) (w : Write) (x : Part) (i : ℕ) → i ≢ partWord (w .slot) x → getD (putOnly p w x) i 0 ≡ getD p i 0
+unfolding putOnly
+only-other p w x i n = same-or-not (w .slot) 0
+    (λ e. rw (eq-eqb (w .slot) 0 e, putOnly))
+    (λ k. rw (ne-eqb (w .slot) 0 k, putOnly) (part-other p (w .slot) x (w .words) i n))
+
+pub double-others-stay : (p : List ℕ) (v : ℕ) (c : Change) (away : Part) (i : ℕ)
+    → countIn i (partWord v Key ∷ partWord v away ∷ partWord (c .near .slot) away ∷ partWord (c .middle .slot) Key ∷ partWord (c .middle .slot) Left ∷ partWord (c .middle .slot) Right ∷ []) ≡ 0
+    → getD (putDouble p v c away) i 0 ≡ getD p i 0
+unfolding putDouble countIn
+double-others-stay p v c away i n =
+    let apart : (j : ℕ) → one (eqb i j) ≡ 0 → i ≢ j = not-same i in
+    only-other _ (c .middle) Right i (apart _ (omega arith))
+    ∙ (only-other _ (c .middle) Left i (apart _ (omega arith))
+    ∙ (only-other _ (c .middle) Key i (apart _ (omega arith))
+    ∙ (only-other _ (c .near) away i (apart _ (omega arith))
+    ∙ (part-other _ v away (c .v) i (apart _ (omega arith))
+    ∙ part-other p v Key (c .v) i (apart _ (omega arith))))))
 
 -- Six words of three slots, which held dv, du and ds and get those words of cv, cu and cs.
 module _ {p : List ℕ} {v u s : ℕ} {dv du ds : Slot} (hv : At p v dv) (hu : At p u du) (hs : At p s ds) (vu : v ≢ u) (vs : v ≢ s) (us : u ≢ s) where
