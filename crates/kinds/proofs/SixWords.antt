@@ -1,9 +1,9 @@
--- 02 (vi): "Kinds 4 and 5 should write only words whose value changes". In words that show a sound State a double rotation makes other words of
--- the six that it writes, each once, and of no other (`double-changes`). And on any words, whatever is written, every word stays that stands at none of
--- the six places (`double-others-stay`).
--- Why: t's router is not v's, as t stands under v and has leaves on either side; and no slot stands in a tree twice, so the slots that take each
--- other's places differ, and so do the places of the words. Left and right are one law over a side (Sides.antt). Assumes nothing.
-use mathlib.Core.Path.{_≡_, refl, sym, ap, _∙_}
+-- 02 (vi): "Kinds 4 and 5 should write only words whose value changes". In words that show a sound State a double rotation changes six words, those
+-- that it writes, and no other (`double-changes`). On any words, whatever is written, each word stays that stands at none of the six places
+-- (`double-others-stay`).
+-- Why: t stands between u and v and has keys on either side, so its router is not v's; no slot stands in a tree twice, so no child word is
+-- written as it was, and the six places are different. Left and right are one law over a side (Sides.antt). Assumes nothing.
+use mathlib.Core.Path.{_≡_, refl, sym, _∙_}
 use mathlib.Core.Logic.{_≢_}
 use mathlib.Core.Bool.{Bool, true}
 use mathlib.Core.List.{List, [], _∷_}
@@ -37,27 +37,27 @@ use Rattle.kinds.specs.Doubles.{sixWords, changed, ChangedAt}
 use Rattle.kinds.proofs.Sides.{Side, left, right, On, on-left, on-right, words, double, near, away, on-slot, on-count, held}
 use Rattle.kinds.proofs.Written.{only-to, double-on}
 
--- `Apart i is`: place i is none of these.
-data Apart (i : ℕ) : List ℕ → Type 0 where
-  of-none : Apart i []
-  of-more : {j : ℕ} {is : List ℕ} → i ≢ j → Apart i is → Apart i (j ∷ is)
+-- place i is none of these
+unfoldable Apart : ℕ → List ℕ → Type 0
+Apart i [] = Unit {0}
+Apart i (j ∷ is) = (i ≢ j) × Apart i is
 
-apart-count : {i : ℕ} {is : List ℕ} → Apart i is → countIn i is ≡ 0
-unfolding countIn
-apart-count of-none = refl
-apart-count {i} (of-more {j = j} n a) = omega (arith, one-other i j n, apart-count a)
+apart-count : (i : ℕ) (is : List ℕ) → Apart i is → countIn i is ≡ 0
+unfolding Apart countIn
+apart-count i [] a = refl
+apart-count i (j ∷ is) a = omega (arith, one-other i j (a .0), apart-count i is (a .1))
 
--- Nothing changed yet; and then another word, at a place that was not written before.
+-- Nothing changed yet; and one word more, at a place that is none of those before.
 changed-none : (p : List ℕ) → ChangedAt p p []
 unfolding countIn changed one
 changed-none p = record { same-length = refl; exactly = λ i. rw (eq-eqb (getD p i 0) (getD p i 0) refl) }
 
 changed-more : {p q is : List ℕ} → ChangedAt p q is → (i x : ℕ) → Apart i is → i < length p → x ≢ getD p i 0 → ChangedAt p (set q i x) (i ∷ is)
 unfolding countIn changed one
-changed-more {p} {q} c i x new inside other = record {
+changed-more {p} {q} {is} c i x new inside other = record {
   same-length = length-set q i x ∙ c .same-length;
   exactly = λ j. same-or-not j i
-      (λ e. rw (e, one-same i i refl, apart-count new, getD-set-same q i x 0 (omega (arith, c .same-length)), ne-eqb x (getD p i 0) other))
+      (λ e. rw (e, one-same i i refl, apart-count i is new, getD-set-same q i x 0 (omega (arith, c .same-length)), ne-eqb x (getD p i 0) other))
       (λ n. rw (one-other j i n, getD-set-other q i j x 0 n) (omega (arith, c .exactly j)));
 }
 
@@ -97,21 +97,21 @@ module _ {p : List ℕ} {v u s : ℕ} {dv du ds : Slot} (hv : At p v dv) (hu : A
       → cs .key ≢ ds .key → cs .left ≢ ds .left → cs .right ≢ ds .right
       → ChangedAt p (putDouble p v (change cv (to u cu) nowhere (to s cs)) x)
       (partWord v Key ∷ partWord v x ∷ partWord u x ∷ partWord s Key ∷ partWord s Left ∷ partWord s Right ∷ [])
-  unfolding putDouble countIn
+  unfolding putDouble countIn Apart
   six-changed x above cv cu cs v₀ v₁ u₁ s₀ s₁ s₂ =
       let small = place-small x in
       let n = hu .from-one in
       let k = hs .from-one in
-      let a = part-changed hv (changed-none p) Key cv of-none v₀ in
-      let b = part-changed hv a x cv (of-more (omega arith) of-none) v₁ in
-      let c = part-changed hu b x cu (of-more (omega arith) (of-more (omega arith) of-none)) u₁ in
-      let d = part-changed hs c Key cs (of-more (omega arith) (of-more (omega arith) (of-more (omega arith) of-none))) s₀ in
-      let e = part-changed hs d Left cs (of-more (omega arith) (of-more (omega arith) (of-more (omega arith) (of-more (omega arith) of-none)))) s₁ in
-      let f = part-changed hs e Right cs (of-more (omega arith) (of-more (omega arith) (of-more (omega arith) (of-more (omega arith) (of-more (omega arith) of-none))))) s₂ in
+      let a = part-changed hv (changed-none p) Key cv tt v₀ in
+      let b = part-changed hv a x cv (omega arith) v₁ in
+      let c = part-changed hu b x cu (omega arith) u₁ in
+      let d = part-changed hs c Key cs (omega arith) s₀ in
+      let e = part-changed hs d Left cs (omega arith) s₁ in
+      let f = part-changed hs e Right cs (omega arith) s₂ in
       rw (only-to _ u x cu n, only-to _ s Key cs k, only-to _ s Left cs k, only-to _ s Right cs k)
       (record { same-length = f .same-length; exactly = λ i. omega (arith, f .exactly i) })
 
--- and what a double rotation writes there, seen from a side: v, u and s get the routers m, j and i, and the slots of subtrees a, b, c and r go along
+-- What a double rotation writes, seen from a side: s, which is 01's t, has the router m; below the three hang a, b, c and r.
 module _ {p : List ℕ} {v u s : ℕ} (vu : v ≢ u) (vs : v ≢ s) (us : u ≢ s) where
   six-differ : (d : Side) (w i j m a b c r : ℕ) → At p v (words d i u r w) → At p u (words d j a s 0) → At p s (words d m b c 0)
       → m ≢ i → s ≢ r → b ≢ s → c ≢ b → r ≢ c
@@ -141,7 +141,7 @@ doubles-change {d = d} {v = v} {u = u} {s = s} {a = a} {b = b} {c = c} {r = r} o
     (λ e. omega (arith, once (slotOf b), count-root b, root-count (slotOf b) c, one-same (slotOf b) (slotOf c) (sym e)))
     (λ e. omega (arith, once (slotOf c), count-root c, root-count (slotOf c) r, one-same (slotOf c) (slotOf r) (sym e))))
 
--- Where the condition holds, the two routers differ: s stands between u and v, and has a child on either side.
+-- Where the condition holds, the routers of s and v differ: a leaf stands between the two.
 local-changes : (d : Side) (lo hi : ℕ) {w v i wl wr x : ℕ} {l r b : Tree} → Local (double d) w (node v i wl l wr r) x b → {p : List ℕ} → Holds p w (node v i wl l wr r)
     → Ordered lo hi (node v i wl l wr r) → ((s : ℕ) → count s (node v i wl l wr r) ≤ 1) → (root : Bool)
     → ChangedAt p (applied p v (double d) root (aroundAt p v)) (sixWords (near d) (away d) p v)

@@ -1,8 +1,7 @@
--- 02 (vi) of the words: "Kinds 4 and 5 should write only words whose value changes". From a pool that passes the audit a step of kind 4 or 5 that is done
--- makes other words of six and leaves all others (`double-left-words`, `double-right-words`), and so does a settle of budget 1 that takes one, where
--- that is the lowest step (`settle-double-left`, `settle-double-right`): v's router and its child away from u; u's child there, which is t; t's
--- router and both children. A refused step changes no word (crate steps' `refused-keeps-words`).
--- Why: each leaves words that show the State after it, and a State decides its words (crate kinds' SixShown.antt). Assumes nothing.
+-- 02 (vi): "Kinds 4 and 5 should write only words whose value changes". From a pool that passes the audit, a step of kind 4 or 5 that is done
+-- changes the six words that `sixWords` names, and no other (`double-left-words`, `double-right-words`); so does a settle of budget 1 where such a
+-- step is the lowest allowed one (`settle-double-left`, `settle-double-right`).
+-- Why: each leaves words that show the State after it; crate kinds' SixShown.antt says how two such pools differ. Assumes nothing.
 use mathlib.Core.Path.{_≡_, sym, ap, _∙_}
 use mathlib.Core.List.{List, [], _∷_}
 use mathlib.Core.Option.{Option, none, some}
@@ -13,7 +12,7 @@ use Rattle.tree.specs.declared.Answer.the-variants.{Done}
 use Rattle.tree.specs.Codes.{kindNumber, codeOf}
 use Rattle.tree.specs.Tree.{Tree}
 use Rattle.tree.specs.Kinds.{stepped}
-use Rattle.tree.specs.State.{state, full}
+use Rattle.tree.specs.State.{full}
 use Rattle.tree.specs.Settle.{lowestStep, nextTree, treesAfter, lastOf}
 use Rattle.tree.proofs.Settling.{lowest-is-allowed, lastAfter, settle-after}
 use Rattle.format.specs.declared.Part.the-variants.{Left, Right}
@@ -27,7 +26,7 @@ use Rattle.steps.proofs.SettleShows.{settle-entry}
 use Rattle.set.specs.Set.{Passing}
 use Rattle.set.proofs.Passing.{shown, passing-state}
 
--- with a budget of 1 settle's last tree is the one that the lowest step makes
+-- with budget 1 the last tree is the one that the lowest step makes
 one-settled : (c s : ℕ) (k : Kind) (t : Tree) → lowestStep c 1 t ≡ some (s, k) → lastAfter c 1 t ≡ stepped k s t
 unfolding nextTree treesAfter lastOf
 one-settled c s k t e = let next : nextTree c t ≡ some (stepped k s t) = rw (e, nextTree) in ap (λ (o : Option Tree). lastOf t (elim o [ some u ↦ u ∷ [] | none ↦ [] ])) next
