@@ -1,6 +1,6 @@
--- 02 (vi): "Kinds 4 and 5 should write only words whose value changes". In words that show a sound State a double rotation changes six words, those
--- that it writes, and no other (`double-changes`). On any words, whatever is written, each word stays that stands at none of the six places
--- (`double-others-stay`).
+-- 02 (vi): "Kinds 4 and 5 should write only words whose value changes". In words that show a sound State a double rotation changes six words and no
+-- other (`double-changes`). They are those that it writes, on any words (`double-places`), and whatever it writes, on any words, each word stays
+-- that stands at none of its places (`double-others-stay`).
 -- Why: t stands between u and v and has keys on either side, so its router is not v's; no slot stands in a tree twice, so no child word is
 -- written as it was, and the six places are different. Left and right are one law over a side (Sides.antt). Assumes nothing.
 use mathlib.Core.Path.{_≡_, refl, sym, _∙_}
@@ -31,11 +31,21 @@ use Rattle.format.proofs.Parts.{place-small, part-read}
 use Rattle.format.proofs.Shown.{shows-tree}
 use Rattle.kinds.specs.declared.Write.{Write}
 use Rattle.kinds.specs.declared.Change.{Change}
-use Rattle.kinds.specs.Around.{aroundAt}
-use Rattle.kinds.specs.Effects.{to, nowhere, change, putOnly, putDouble, putEffect, applied, effect}
+use Rattle.kinds.specs.Around.{aroundOf, aroundAt, mirrored}
+use Rattle.kinds.specs.Effects.{to, nowhere, change, doubleLeft, mirroredChange, effect, putOnly, putDouble, putEffect, applied}
 use Rattle.kinds.specs.Doubles.{sixWords, changed, ChangedAt}
 use Rattle.kinds.proofs.Sides.{Side, left, right, On, on-left, on-right, words, double, near, away, on-slot, on-count, held}
 use Rattle.kinds.proofs.Written.{only-to, double-on}
+
+-- the places that `putDouble` writes
+abbrev pub placesWritten : ℕ → Change → Part → List ℕ
+placesWritten v c away =
+    partWord v Key ∷ partWord v away ∷ partWord (c .near .slot) away ∷ partWord (c .middle .slot) Key ∷ partWord (c .middle .slot) Left ∷ partWord (c .middle .slot) Right ∷ []
+
+pub double-places : (d : Side) (p : List ℕ) (v : ℕ) (root : Bool) → placesWritten v (effect (double d) root (aroundAt p v)) (away d) ≡ sixWords (near d) (away d) p v
+unfolding effect doubleLeft mirroredChange mirrored aroundOf sixWords
+double-places left p v root = refl
+double-places right p v root = refl
 
 -- place i is none of these
 unfoldable Apart : ℕ → List ℕ → Type 0
@@ -78,9 +88,7 @@ only-other p w x i n = same-or-not (w .slot) 0
     (λ e. rw (eq-eqb (w .slot) 0 e, putOnly))
     (λ k. rw (ne-eqb (w .slot) 0 k, putOnly) (part-other p (w .slot) x (w .words) i n))
 
-pub double-others-stay : (p : List ℕ) (v : ℕ) (c : Change) (away : Part) (i : ℕ)
-    → countIn i (partWord v Key ∷ partWord v away ∷ partWord (c .near .slot) away ∷ partWord (c .middle .slot) Key ∷ partWord (c .middle .slot) Left ∷ partWord (c .middle .slot) Right ∷ []) ≡ 0
-    → getD (putDouble p v c away) i 0 ≡ getD p i 0
+pub double-others-stay : (p : List ℕ) (v : ℕ) (c : Change) (away : Part) (i : ℕ) → countIn i (placesWritten v c away) ≡ 0 → getD (putDouble p v c away) i 0 ≡ getD p i 0
 unfolding putDouble countIn
 double-others-stay p v c away i n =
     let apart : (j : ℕ) → one (eqb i j) ≡ 0 → i ≢ j = not-same i in
@@ -95,8 +103,8 @@ double-others-stay p v c away i n =
 module _ {p : List ℕ} {v u s : ℕ} {dv du ds : Slot} (hv : At p v dv) (hu : At p u du) (hs : At p s ds) (vu : v ≢ u) (vs : v ≢ s) (us : u ≢ s) where
   six-changed : (x : Part) → 1 ≤ placeOf x → (cv cu cs : Slot) → cv .key ≢ dv .key → partOf x cv ≢ partOf x dv → partOf x cu ≢ partOf x du
       → cs .key ≢ ds .key → cs .left ≢ ds .left → cs .right ≢ ds .right
-      → ChangedAt p (putDouble p v (change cv (to u cu) nowhere (to s cs)) x)
-      (partWord v Key ∷ partWord v x ∷ partWord u x ∷ partWord s Key ∷ partWord s Left ∷ partWord s Right ∷ [])
+      → let c = change cv (to u cu) nowhere (to s cs) in
+      ChangedAt p (putDouble p v c x) (placesWritten v c x)
   unfolding putDouble countIn Apart
   six-changed x above cv cu cs v₀ v₁ u₁ s₀ s₁ s₂ =
       let small = place-small x in
@@ -115,16 +123,16 @@ module _ {p : List ℕ} {v u s : ℕ} {dv du ds : Slot} (hv : At p v dv) (hu : A
 module _ {p : List ℕ} {v u s : ℕ} (vu : v ≢ u) (vs : v ≢ s) (us : u ≢ s) where
   six-differ : (d : Side) (w i j m a b c r : ℕ) → At p v (words d i u r w) → At p u (words d j a s 0) → At p s (words d m b c 0)
       → m ≢ i → s ≢ r → b ≢ s → c ≢ b → r ≢ c
-      → ChangedAt p (putDouble p v (change (words d m u s w) (to u (words d j a b 0)) nowhere (to s (words d i c r 0))) (away d)) (sixWords (near d) (away d) p v)
-  unfolding sixWords
-  six-differ left w i j m a b c r hv hu hs mi sr bs cb rc = rw (hv .content, hu .content) (six-changed hv hu hs vu vs us Right (omega arith) _ _ _ mi sr bs (λ e. mi (sym e)) cb rc)
-  six-differ right w i j m a b c r hv hu hs mi sr bs cb rc = rw (hv .content, hu .content) (six-changed hv hu hs vu vs us Left (omega arith) _ _ _ mi sr bs (λ e. mi (sym e)) rc cb)
+      → let change′ = change (words d m u s w) (to u (words d j a b 0)) nowhere (to s (words d i c r 0)) in
+      ChangedAt p (putDouble p v change′ (away d)) (placesWritten v change′ (away d))
+  six-differ left w i j m a b c r hv hu hs mi sr bs cb rc = six-changed hv hu hs vu vs us Right (omega arith) _ _ _ mi sr bs (λ e. mi (sym e)) cb rc
+  six-differ right w i j m a b c r hv hu hs mi sr bs cb rc = six-changed hv hu hs vu vs us Left (omega arith) _ _ _ mi sr bs (λ e. mi (sym e)) rc cb
 
 doubles-change : {d : Side} {p : List ℕ} {w v i u j wa s m wb wc wr : ℕ} {a b c r x y z z′ t : Tree}
     → On d v i 0 x wr r t → On d u j wa a 0 z x → On d s m wb b wc c z → On d u j wa a wb b y → On d s i wc c wr r z′
     → Holds p w t → ((s : ℕ) → count s t ≤ 1) → m ≢ i → (root : Bool)
     → ChangedAt p (putDouble p v (effect (double d) root (aroundAt p v)) (away d)) (sixWords (near d) (away d) p v)
-doubles-change {d = d} {v = v} {u = u} {s = s} {a = a} {b = b} {c = c} {r = r} ot ox oz oy oz′ h n mi root =
+doubles-change {d = d} {p = p} {v = v} {u = u} {s = s} {a = a} {b = b} {c = c} {r = r} ot ox oz oy oz′ h n mi root =
     let hv = held ot h in
     let hu = held ox (hv .near) in
     let hs = held oz (hu .far) in
@@ -133,7 +141,7 @@ doubles-change {d = d} {v = v} {u = u} {s = s} {a = a} {b = b} {c = c} {r = r} o
     let v-once = one-same v v refl in
     let u-once = one-same u u refl in
     let s-once = one-same s s refl in
-    rw (double-on ot ox oz oy oz′ h (hs .own .content) root, on-slot oy, on-slot oz′)
+    rw (sym (double-places d p v root), double-on ot ox oz oy oz′ h (hs .own .content) root, on-slot oy, on-slot oz′)
     (six-differ (λ e. omega (arith, once v, one-same v u e)) (λ e. omega (arith, once v, one-same v s e)) (λ e. omega (arith, once u, one-same u s e)) d _ _ _ _ _ _ _ _
     (rw (on-slot ox) at (hv .own)) (rw (on-slot oz) at (hu .own)) (hs .own) mi
     (λ e. omega (arith, once s, root-count s r, one-same s (slotOf r) e))
