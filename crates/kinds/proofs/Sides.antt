@@ -40,10 +40,19 @@ abbrev pub lighten : Side → Kind
 lighten left = LightenLeft
 lighten right = LightenRight
 
--- the child word on the other side
+-- the child word on the side, and on the other
+abbrev pub near : Side → Part
+near left = Left
+near right = Right
+
 abbrev pub away : Side → Part
 away left = Right
 away right = Left
+
+pub on-slot : {d : Side} {v i wn wf : ℕ} {n f t : Tree} → On d v i wn n wf f t → slotOf t ≡ v
+unfolding slotOf
+on-slot on-left = refl
+on-slot on-right = refl
 
 pub on-count : {d : Side} {v i wn wf : ℕ} {n f t : Tree} → On d v i wn n wf f t → (s : ℕ) → count s t ≡ one (eqb s v) + count s n + count s f
 unfolding count

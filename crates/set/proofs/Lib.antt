@@ -4,6 +4,7 @@ pub mod Working
 pub mod Members
 pub mod Answers
 pub mod Levels
+pub mod SixWords
 pub mod Leaves
 pub mod Promises
 pub mod Decides
