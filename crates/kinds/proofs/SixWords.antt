@@ -32,10 +32,10 @@ use Rattle.format.proofs.Shown.{shows-tree}
 use Rattle.kinds.specs.declared.Write.{Write}
 use Rattle.kinds.specs.declared.Change.{Change}
 use Rattle.kinds.specs.Around.{aroundOf, aroundAt, mirrored}
-use Rattle.kinds.specs.Effects.{to, nowhere, change, doubleLeft, mirroredChange, effect, putOnly, putDouble, putEffect, applied}
+use Rattle.kinds.specs.Effects.{to, nowhere, change, doubleLeft, mirroredChange, effect, putChange, putOnly, putDouble, putEffect, applied}
 use Rattle.kinds.specs.Doubles.{sixWords, changed, ChangedAt}
 use Rattle.kinds.proofs.Sides.{Side, left, right, On, on-left, on-right, words, double, near, away, on-slot, on-count, held}
-use Rattle.kinds.proofs.Written.{only-to, double-on}
+use Rattle.kinds.proofs.Written.{only-to, Three, three, doubleChange, double-on, double-whole}
 
 -- the places that `putDouble` writes
 abbrev pub placesWritten : ℕ → Change → Part → List ℕ
@@ -120,30 +120,21 @@ module _ {p : List ℕ} {v u s : ℕ} {dv du ds : Slot} (hv : At p v dv) (hu : A
       (record { same-length = f .same-length; exactly = λ i. omega (arith, f .exactly i) })
 
 -- What a double rotation writes, seen from a side: s, which is 01's t, has the router m; below the three hang a, b, c and r.
-module _ {p : List ℕ} {v u s : ℕ} (vu : v ≢ u) (vs : v ≢ s) (us : u ≢ s) where
-  six-differ : (d : Side) (w i j m a b c r : ℕ) → At p v (words d i u r w) → At p u (words d j a s 0) → At p s (words d m b c 0)
-      → m ≢ i → s ≢ r → b ≢ s → c ≢ b → r ≢ c
-      → let change′ = change (words d m u s w) (to u (words d j a b 0)) nowhere (to s (words d i c r 0)) in
-      ChangedAt p (putDouble p v change′ (away d)) (placesWritten v change′ (away d))
-  six-differ left w i j m a b c r hv hu hs mi sr bs cb rc = six-changed hv hu hs vu vs us Right (omega arith) _ _ _ mi sr bs (λ e. mi (sym e)) cb rc
-  six-differ right w i j m a b c r hv hu hs mi sr bs cb rc = six-changed hv hu hs vu vs us Left (omega arith) _ _ _ mi sr bs (λ e. mi (sym e)) rc cb
+six-differ : {d : Side} {p : List ℕ} {w v i u j s m a b c r : ℕ} → Three d p w v i u j s m a b c r → m ≢ i → s ≢ r → b ≢ s → c ≢ b → r ≢ c
+    → let c′ = doubleChange d w i u j s m a b c r in
+    ChangedAt p (putDouble p v c′ (away d)) (placesWritten v c′ (away d))
+six-differ {d = left} T mi sr bs cb rc = six-changed (T .at-v) (T .at-u) (T .at-s) (T .vu) (T .vs) (T .us) Right (omega arith) _ _ _ mi sr bs (λ e. mi (sym e)) cb rc
+six-differ {d = right} T mi sr bs cb rc = six-changed (T .at-v) (T .at-u) (T .at-s) (T .vu) (T .vs) (T .us) Left (omega arith) _ _ _ mi sr bs (λ e. mi (sym e)) rc cb
 
-doubles-change : {d : Side} {p : List ℕ} {w v i u j wa s m wb wc wr : ℕ} {a b c r x y z z′ t : Tree}
-    → On d v i 0 x wr r t → On d u j wa a 0 z x → On d s m wb b wc c z → On d u j wa a wb b y → On d s i wc c wr r z′
-    → Holds p w t → ((s : ℕ) → count s t ≤ 1) → m ≢ i → (root : Bool)
+doubles-change : {d : Side} {p : List ℕ} {w v i u j wa s m wb wc wr : ℕ} {a b c r x z t : Tree}
+    → On d v i 0 x wr r t → On d u j wa a 0 z x → On d s m wb b wc c z → Holds p w t → ((s : ℕ) → count s t ≤ 1) → m ≢ i → (root : Bool)
     → ChangedAt p (putDouble p v (effect (double d) root (aroundAt p v)) (away d)) (sixWords (near d) (away d) p v)
-doubles-change {d = d} {p = p} {v = v} {u = u} {s = s} {a = a} {b = b} {c = c} {r = r} ot ox oz oy oz′ h n mi root =
-    let hv = held ot h in
-    let hu = held ox (hv .near) in
-    let hs = held oz (hu .far) in
-    let once : (x : ℕ) → one (eqb x v) + one (eqb x u) + one (eqb x s) + count x a + count x b + count x c + count x r ≤ 1 =
-    λ x. omega (arith, n x, on-count ot x, on-count ox x, on-count oz x) in
-    let v-once = one-same v v refl in
-    let u-once = one-same u u refl in
+doubles-change {d = d} {p = p} {v = v} {u = u} {s = s} {a = a} {b = b} {c = c} {r = r} ot ox oz h n mi root =
+    let T = three ot ox oz h n in
+    let once : (x : ℕ) → one (eqb x s) + count x a + count x b + count x c + count x r ≤ 1 = λ x. omega (arith, n x, on-count ot x, on-count ox x, on-count oz x) in
     let s-once = one-same s s refl in
-    rw (sym (double-places d p v root), double-on ot ox oz oy oz′ h (hs .own .content) root, on-slot oy, on-slot oz′)
-    (six-differ (λ e. omega (arith, once v, one-same v u e)) (λ e. omega (arith, once v, one-same v s e)) (λ e. omega (arith, once u, one-same u s e)) d _ _ _ _ _ _ _ _
-    (rw (on-slot ox) at (hv .own)) (rw (on-slot oz) at (hu .own)) (hs .own) mi
+    rw (sym (double-places d p v root), double-on T root)
+    (six-differ T mi
     (λ e. omega (arith, once s, root-count s r, one-same s (slotOf r) e))
     (λ e. omega (arith, once s, root-count s b, one-same s (slotOf b) (sym e)))
     (λ e. omega (arith, once (slotOf b), count-root b, root-count (slotOf b) c, one-same (slotOf b) (slotOf c) (sym e)))
@@ -155,9 +146,9 @@ local-changes : (d : Side) (lo hi : ℕ) {w v i wl wr x : ℕ} {l r b : Tree} �
     → ChangedAt p (applied p v (double d) root (aroundAt p v)) (sixWords (near d) (away d) p v)
 unfolding applied putEffect Ordered
 local-changes left lo hi (double-left {i = i} {m = m} {c = c}) h o n root =
-    doubles-change on-left on-left on-left on-left on-left h n (λ e. omega (arith, ordered-bounds (suc m) (suc i) c (o .0 .1 .1))) root
+    doubles-change on-left on-left on-left h n (λ e. omega (arith, ordered-bounds (suc m) (suc i) c (o .0 .1 .1))) root
 local-changes right lo hi (double-right {i = i} {m = m} {b = b}) h o n root =
-    doubles-change on-right on-right on-right on-right on-right h n (λ e. omega (arith, ordered-bounds (suc i) (suc m) b (o .1 .0 .0))) root
+    doubles-change on-right on-right on-right h n (λ e. omega (arith, ordered-bounds (suc i) (suc m) b (o .1 .0 .0))) root
 
 step-changes : (d : Side) (lo hi : ℕ) {s w x : ℕ} {t b : Tree} → Step (double d) s w t x b → {p : List ℕ} → Holds p w t → Ordered lo hi t → ((x : ℕ) → count x t ≤ 1) → (root : Bool)
     → ChangedAt p (applied p s (double d) root (aroundAt p s)) (sixWords (near d) (away d) p s)
@@ -166,6 +157,15 @@ step-changes d lo hi (here l) h o n root = local-changes d lo hi l h o n root
 step-changes d lo hi (in-left {i = k} i) (holds-node h hl hr) o n root = step-changes d lo (suc k) i hl (o .0) (λ x. omega (arith, n x)) root
 step-changes d lo hi (in-right {i = k} i) (holds-node h hl hr) o n root = step-changes d (suc k) hi i hr (o .1) (λ x. omega (arith, n x)) root
 
+-- The six words leave what the whole slots leave.
+step-whole : (d : Side) {s w x : ℕ} {t b : Tree} → Step (double d) s w t x b → {p : List ℕ} → Holds p w t → ((x : ℕ) → count x t ≤ 1) → (root : Bool)
+    → applied p s (double d) root (aroundAt p s) ≡ putChange p s (effect (double d) root (aroundAt p s))
+unfolding applied putEffect count
+step-whole left (here double-left) h n root = double-whole (three on-left on-left on-left h n) root
+step-whole right (here double-right) h n root = double-whole (three on-right on-right on-right h n) root
+step-whole d (in-left i) (holds-node h hl hr) n root = step-whole d i hl (λ x. omega (arith, n x)) root
+step-whole d (in-right i) (holds-node h hl hr) n root = step-whole d i hr (λ x. omega (arith, n x)) root
+
 module _ (S : State) (t : Tree) (sound : Sound S) (e : S .top ≡ full t) {h : Header} (p : List ℕ) (shows : Shows h p S) where
   pub double-changes : (d : Side) (s : ℕ) → conditionAt (double d) s t ≡ true
       → ChangedAt p (applied p s (double d) (eqb s (h .root)) (aroundAt p s)) (sixWords (near d) (away d) p s)
@@ -173,3 +173,9 @@ module _ (S : State) (t : Tree) (sound : Sound S) (e : S .top ≡ full t) {h : H
       let good = tree-good S t sound e in
       let once = tree-once S t sound e in
       step-changes d 0 keyEnd (made (double d) s t (good .chromatic) (once s) c .step) (shows-tree shows e) (good .ordered) once _
+
+  pub double-as-before : (d : Side) (s : ℕ) → conditionAt (double d) s t ≡ true → (root : Bool)
+      → applied p s (double d) root (aroundAt p s) ≡ putChange p s (effect (double d) root (aroundAt p s))
+  double-as-before d s c root =
+      let once = tree-once S t sound e in
+      step-whole d (made (double d) s t (tree-good S t sound e .chromatic) (once s) c .step) (shows-tree shows e) once root
