@@ -1,7 +1,6 @@
--- 02 (vi) as a host sees it: "Kinds 4 and 5 should write only words whose value changes". On a pool for which the exported audit gives 0, of a
--- batch that reads as one command, a step of kind 4 or 5, and has room for its answer: where the answer's code word is 0 after the call, the
--- call changed the six words of the pool that `sixWords` names, and no other (`batch-double-left`, `batch-double-right`). Of a step amid other
--- commands: crate kinds' SixShown.antt.
+-- RULES 4.13 as a host sees it. On a pool for which the exported audit gives 0, of a batch that reads as one command, a step of kind 4 or 5, and
+-- has room for its answer: where the answer's code word is 0 after the call, the call changed the six words of the pool that `sixWords` names, and
+-- no other (`batch-double-left`, `batch-double-right`). Of a step amid other commands: crate kinds' SixShown.antt.
 -- Why: the call leaves the words of the State after that step. Assumes nothing.
 use mathlib.Core.Path.{_≡_}
 use mathlib.Core.List.{List, [], _∷_}

@@ -1,4 +1,4 @@
--- 02 (vi) from pool to pool. Where kind 4 or 5 is allowed, a pool that shows a sound State and one that shows the State after that step differ in
+-- RULES 4.13 from pool to pool. Where kind 4 or 5 is allowed, a pool that shows a sound State and one that shows the State after that step differ in
 -- the six words and in no other (`allowed-double`). So do they where the command step, of that kind, gives code 0 (`double-done`), and so do the
 -- words of the two States (`shown-double-left`, `shown-double-right`).
 -- Why: a State decides its words (format's `words-decided`), so they are those that the effect leaves, of which SixWords.antt speaks: kinds 4

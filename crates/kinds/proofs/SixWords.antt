@@ -1,6 +1,6 @@
--- 02 (vi): "Kinds 4 and 5 should write only words whose value changes". In words that show a sound State a double rotation changes six words and no
--- other (`double-changes`). They are those that it writes, on any words (`double-places`), and whatever it writes, on any words, each word stays
--- that stands at none of its places (`double-others-stay`).
+-- RULES 4.13. In words that show a sound State a double rotation changes six words and no other (`double-changes`), and leaves what the whole
+-- slots of its effect would leave (`double-as-before`). They are those that it writes, on any words (`double-places`), and whatever it writes, on
+-- any words, each word stays that stands at none of its places (`double-others-stay`).
 -- Why: t stands between u and v and has keys on either side, so its router is not v's; no slot stands in a tree twice, so no child word is
 -- written as it was, and the six places are different. Left and right are one law over a side (Sides.antt). Assumes nothing.
 use mathlib.Core.Path.{_≡_, refl, sym, _∙_}
@@ -34,7 +34,7 @@ use Rattle.kinds.specs.declared.Change.{Change}
 use Rattle.kinds.specs.Around.{aroundOf, aroundAt, mirrored}
 use Rattle.kinds.specs.Effects.{to, nowhere, change, doubleLeft, mirroredChange, effect, putChange, putOnly, putDouble, putEffect, applied}
 use Rattle.kinds.specs.Doubles.{sixWords, changed, ChangedAt}
-use Rattle.kinds.proofs.Sides.{Side, left, right, On, on-left, on-right, words, double, near, away, on-slot, on-count, held}
+use Rattle.kinds.proofs.Sides.{Side, left, right, On, on-left, on-right, words, double, near, away, on-count}
 use Rattle.kinds.proofs.Written.{only-to, Three, three, doubleChange, double-on, double-whole}
 
 -- the places that `putDouble` writes

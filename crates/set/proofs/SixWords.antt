@@ -1,6 +1,6 @@
--- 02 (vi): "Kinds 4 and 5 should write only words whose value changes". From a pool that passes the audit, a step of kind 4 or 5 that is done
--- changes the six words that `sixWords` names, and no other (`double-left-words`, `double-right-words`); so does a settle of budget 1 where such a
--- step is the lowest allowed one (`settle-double-left`, `settle-double-right`).
+-- RULES 4.13. From a pool that passes the audit, a step of kind 4 or 5 that is done changes the six words that `sixWords` names, and no other
+-- (`double-left-words`, `double-right-words`); so does a settle of budget 1 where such a step is the lowest allowed one (`settle-double-left`,
+-- `settle-double-right`).
 -- Why: each leaves words that show the State after it; crate kinds' SixShown.antt says how two such pools differ. Assumes nothing.
 use mathlib.Core.Path.{_≡_, sym, ap, _∙_}
 use mathlib.Core.List.{List, [], _∷_}
