@@ -1,23 +1,26 @@
 -- RULES 4.13 from pool to pool. Where kind 4 or 5 is allowed, a pool that shows a sound State and one that shows the State after that step differ in
--- the six words and in no other (`allowed-double`). So do they where the command step, of that kind, gives code 0 (`double-done`), and so do the
--- words of the two States (`shown-double-left`, `shown-double-right`).
+-- the six words and in no other (`allowed-double`). So do they where the command step, of that kind, gives code 0 (`double-done`), where settle
+-- with budget 1 takes that step, the lowest (`double-settled`), and so do the words of the two States (`shown-double-left`, `shown-double-right`).
 -- Why: a State decides its words (format's `words-decided`), so they are those that the effect leaves, of which SixWords.antt speaks: kinds 4
 -- and 5 leave L, and with it the header. Assumes nothing.
 use mathlib.Core.Path.{_≡_, refl, sym, ap, _∙_}
 use mathlib.Core.Bool.{Bool, true, false}
-use mathlib.Core.List.{List}
+use mathlib.Core.List.{List, [], _∷_}
+use mathlib.Core.Option.{Option, none, some}
 use native.Mathlib.Omega.{arith}
 use native.Mathlib.Nat.{mod-eq-of-lt}
 use lib.Dec.{eqb}
 use Prim.Native.Nat.{ℕ, _^_, _<_}
+use Rattle.tree.specs.declared.Kind.{Kind}
 use Rattle.tree.specs.declared.Kind.the-variants.{DoubleLeft, DoubleRight}
 use Rattle.tree.specs.declared.Answer.the-variants.{Done}
 use Rattle.tree.specs.Codes.{kindNumber, codeOf}
 use Rattle.tree.specs.Tree.{Tree, level}
 use Rattle.tree.specs.Kinds.{condition, conditionAt, stepped}
 use Rattle.tree.specs.State.{State, state, full, levelTop, Sound, Outcome, step}
-use Rattle.tree.specs.Settle.{allowed}
+use Rattle.tree.specs.Settle.{allowed, lowestStep, nextTree, treesAfter, lastOf, settle}
 use Rattle.tree.proofs.KindNumbers.{named-known, refusal-some}
+use Rattle.tree.proofs.Settling.{lowest-is-allowed, lastAfter, settle-after}
 use Rattle.tree.proofs.Steps.{holdsAt-present}
 use Rattle.tree.proofs.StepState.{tree-slot, tree-good, allowed-exactly, sound-kept, StepCase, refused, taken, stepping, step-sound-state}
 use Rattle.format.specs.declared.Part.the-variants.{Left, Right}
@@ -65,6 +68,17 @@ double-done {S} {p} {q} sound shows d s = go (stepping s (kindNumber (double d))
         let n = named-known (double d) in
         let same : k ≡ double d = cc in
         allowed-double sound shows t e d s (rw same at a) (rw same at after)
+
+-- with budget 1 the last tree is the one that the lowest step makes
+one-settled : (c s : ℕ) (k : Kind) (t : Tree) → lowestStep c 1 t ≡ some (s, k) → lastAfter c 1 t ≡ stepped k s t
+unfolding nextTree treesAfter lastOf
+one-settled c s k t e = let next : nextTree c t ≡ some (stepped k s t) = rw (e, nextTree) in ap (λ (o : Option Tree). lastOf t (elim o [ some u ↦ u ∷ [] | none ↦ [] ])) next
+
+pub double-settled : {S : State} {p q : List ℕ} → Sound S → PoolShows p S → (t : Tree) → S .top ≡ full t → (d : Side) (s : ℕ)
+    → lowestStep (S .slots) 1 t ≡ some (s, double d) → PoolShows q ((settle 1 S) .after) → ChangedAt p q (sixWords (near d) (away d) p s)
+double-settled {S} sound shows t e d s f after =
+    allowed-double sound shows t e d s (lowest-is-allowed (S .slots) s (double d) t f .is-allowed)
+    (rw (settle-after S t e 1, one-settled (S .slots) s (double d) t f) at after)
 
 module _ {S : State} (sound : Sound S) (s : ℕ) {a : ℕ} where
   pub shown-double-left : (step s (kindNumber DoubleLeft) S) .answer ≡ Done a

@@ -1,6 +1,6 @@
 -- RULES 4.13. In words that show a sound State a double rotation changes six words and no other (`double-changes`), and leaves what the whole
--- slots of its effect would leave (`double-as-before`). They are those that it writes, on any words (`double-places`), and whatever it writes, on
--- any words, each word stays that stands at none of its places (`double-others-stay`).
+-- slots of its effect would leave (`double-as-before`). On any words, whatever stands there, it changes no word but those six
+-- (`double-others-stay`).
 -- Why: t stands between u and v and has keys on either side, so its router is not v's; no slot stands in a tree twice, so no child word is
 -- written as it was, and the six places are different. Left and right are one law over a side (Sides.antt). Assumes nothing.
 use mathlib.Core.Path.{_≡_, refl, sym, _∙_}
@@ -34,15 +34,15 @@ use Rattle.kinds.specs.declared.Change.{Change}
 use Rattle.kinds.specs.Around.{aroundOf, aroundAt, mirrored}
 use Rattle.kinds.specs.Effects.{to, nowhere, change, doubleLeft, mirroredChange, effect, putChange, putOnly, putDouble, putEffect, applied}
 use Rattle.kinds.specs.Doubles.{sixWords, changed, ChangedAt}
-use Rattle.kinds.proofs.Sides.{Side, left, right, On, on-left, on-right, words, double, near, away, on-count}
+use Rattle.kinds.proofs.Sides.{Side, left, right, On, on-left, on-right, double, near, away, on-count}
 use Rattle.kinds.proofs.Written.{only-to, Three, three, doubleChange, double-on, double-whole}
 
 -- the places that `putDouble` writes
-abbrev pub placesWritten : ℕ → Change → Part → List ℕ
+abbrev placesWritten : ℕ → Change → Part → List ℕ
 placesWritten v c away =
     partWord v Key ∷ partWord v away ∷ partWord (c .near .slot) away ∷ partWord (c .middle .slot) Key ∷ partWord (c .middle .slot) Left ∷ partWord (c .middle .slot) Right ∷ []
 
-pub double-places : (d : Side) (p : List ℕ) (v : ℕ) (root : Bool) → placesWritten v (effect (double d) root (aroundAt p v)) (away d) ≡ sixWords (near d) (away d) p v
+double-places : (d : Side) (p : List ℕ) (v : ℕ) (root : Bool) → placesWritten v (effect (double d) root (aroundAt p v)) (away d) ≡ sixWords (near d) (away d) p v
 unfolding effect doubleLeft mirroredChange mirrored aroundOf sixWords
 double-places left p v root = refl
 double-places right p v root = refl
@@ -88,16 +88,22 @@ only-other p w x i n = same-or-not (w .slot) 0
     (λ e. rw (eq-eqb (w .slot) 0 e, putOnly))
     (λ k. rw (ne-eqb (w .slot) 0 k, putOnly) (part-other p (w .slot) x (w .words) i n))
 
-pub double-others-stay : (p : List ℕ) (v : ℕ) (c : Change) (away : Part) (i : ℕ) → countIn i (placesWritten v c away) ≡ 0 → getD (putDouble p v c away) i 0 ≡ getD p i 0
+others-stay : (p : List ℕ) (v : ℕ) (c : Change) (x : Part) (i : ℕ) → countIn i (placesWritten v c x) ≡ 0 → getD (putDouble p v c x) i 0 ≡ getD p i 0
 unfolding putDouble countIn
-double-others-stay p v c away i n =
+others-stay p v c x i n =
     let apart : (j : ℕ) → one (eqb i j) ≡ 0 → i ≢ j = not-same i in
     only-other _ (c .middle) Right i (apart _ (omega arith))
     ∙ (only-other _ (c .middle) Left i (apart _ (omega arith))
     ∙ (only-other _ (c .middle) Key i (apart _ (omega arith))
-    ∙ (only-other _ (c .near) away i (apart _ (omega arith))
-    ∙ (part-other _ v away (c .v) i (apart _ (omega arith))
+    ∙ (only-other _ (c .near) x i (apart _ (omega arith))
+    ∙ (part-other _ v x (c .v) i (apart _ (omega arith))
     ∙ part-other p v Key (c .v) i (apart _ (omega arith))))))
+
+pub double-others-stay : (d : Side) (p : List ℕ) (v : ℕ) (root : Bool) (i : ℕ) → countIn i (sixWords (near d) (away d) p v) ≡ 0
+    → getD (applied p v (double d) root (aroundAt p v)) i 0 ≡ getD p i 0
+unfolding applied putEffect
+double-others-stay left p v root i n = others-stay p v (effect (double left) root (aroundAt p v)) Right i (rw (double-places left p v root) n)
+double-others-stay right p v root i n = others-stay p v (effect (double right) root (aroundAt p v)) Left i (rw (double-places right p v root) n)
 
 -- Six words of three slots, which held dv, du and ds and get those words of cv, cu and cs.
 module _ {p : List ℕ} {v u s : ℕ} {dv du ds : Slot} (hv : At p v dv) (hu : At p u du) (hs : At p s ds) (vu : v ≢ u) (vs : v ≢ s) (us : u ≢ s) where

@@ -3,33 +3,25 @@
 -- `settle-double-right`).
 -- Why: each leaves words that show the State after it; crate kinds' SixShown.antt says how two such pools differ. Assumes nothing.
 use mathlib.Core.Path.{_≡_, sym, ap, _∙_}
-use mathlib.Core.List.{List, [], _∷_}
-use mathlib.Core.Option.{Option, none, some}
+use mathlib.Core.List.{List}
+use mathlib.Core.Option.{some}
 use Prim.Native.Nat.{ℕ}
-use Rattle.tree.specs.declared.Kind.{Kind}
 use Rattle.tree.specs.declared.Kind.the-variants.{DoubleLeft, DoubleRight}
 use Rattle.tree.specs.declared.Answer.the-variants.{Done}
 use Rattle.tree.specs.Codes.{kindNumber, codeOf}
 use Rattle.tree.specs.Tree.{Tree}
-use Rattle.tree.specs.Kinds.{stepped}
 use Rattle.tree.specs.State.{full}
-use Rattle.tree.specs.Settle.{lowestStep, nextTree, treesAfter, lastOf}
-use Rattle.tree.proofs.Settling.{lowest-is-allowed, lastAfter, settle-after}
+use Rattle.tree.specs.Settle.{lowestStep}
 use Rattle.format.specs.declared.Part.the-variants.{Left, Right}
 use Rattle.format.specs.Audit.{stateOf}
 use Rattle.kinds.specs.Doubles.{sixWords, ChangedAt}
 use Rattle.kinds.proofs.Sides.{Side, left, right, double, near, away}
-use Rattle.kinds.proofs.SixShown.{allowed-double, double-done}
+use Rattle.kinds.proofs.SixShown.{double-done, double-settled}
 use Rattle.steps.specs.Steps.{stepAnswer, stepWords, settleWords}
 use Rattle.steps.proofs.StepShows.{step-entry}
 use Rattle.steps.proofs.SettleShows.{settle-entry}
 use Rattle.set.specs.Set.{Passing}
 use Rattle.set.proofs.Passing.{shown, passing-state}
-
--- with budget 1 the last tree is the one that the lowest step makes
-one-settled : (c s : ℕ) (k : Kind) (t : Tree) → lowestStep c 1 t ≡ some (s, k) → lastAfter c 1 t ≡ stepped k s t
-unfolding nextTree treesAfter lastOf
-one-settled c s k t e = let next : nextTree c t ≡ some (stepped k s t) = rw (e, nextTree) in ap (λ (o : Option Tree). lastOf t (elim o [ some u ↦ u ∷ [] | none ↦ [] ])) next
 
 module _ {p : List ℕ} (g : Passing p) where
   double-words : (d : Side) (s : ℕ) {a : ℕ} → stepAnswer p s (kindNumber (double d)) ≡ Done a
@@ -46,11 +38,7 @@ module _ {p : List ℕ} (g : Passing p) where
 
   module _ (t : Tree) (e : (stateOf p) .top ≡ full t) (s : ℕ) where
     settle-double : (d : Side) → lowestStep ((stateOf p) .slots) 1 t ≡ some (s, double d) → ChangedAt p (settleWords p 1) (sixWords (near d) (away d) p s)
-    settle-double d f =
-        let S = stateOf p in
-        let q = passing-state g in
-        let after = rw (settle-after S t e 1, one-settled (S .slots) s (double d) t f) at (settle-entry (q .0) (q .1) 1 .1) in
-        allowed-double (q .0) (q .1) t e d s (lowest-is-allowed (S .slots) s (double d) t f .is-allowed) after
+    settle-double d f = let q = passing-state g in double-settled (q .0) (q .1) t e d s f (settle-entry (q .0) (q .1) 1 .1)
 
     pub settle-double-left : lowestStep ((stateOf p) .slots) 1 t ≡ some (s, DoubleLeft) → ChangedAt p (settleWords p 1) (sixWords Left Right p s)
     settle-double-left = settle-double left
