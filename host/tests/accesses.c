@@ -3,12 +3,19 @@
  *   accesses count LOG TRACE [--words]   takes from LOG what each call answered and left, and from TRACE what it touched, and prints.
  * A call stands between two stores to `mark`, and accesses to `lent`, where its pool is, are counted by word: a wider one for each word that
  * it covers, a modifying one as a read and a write.
- * A command runs in a batch of its own. What it did itself is the difference to the same call on the same pool with a command that needs no
- * word, a step at a slot above C: the audit, and the header as the call takes it and puts it back, are in both. (An empty batch will not do:
- * there the compiler reads the header otherwise.) That such a call touches no slot beyond its audit is one of the verdicts.
- * A step by settle is tried with v in slot 1, where the scan begins, so that the settle with budget 0 is its look at v and nothing else. The
- * settle with budget 1 looks, takes the step and scans once more; that scan, which is the settle with budget 0 on the pool afterwards, is
- * taken off. */
+ * A command runs in a batch of its own, or as the second of two. What it did itself is the difference to the same call on the same pool with
+ * a command in its place that needs no word, a step at a slot above C: the audit, the command before it, and the header as the call takes it
+ * and puts it back, are in both. (An empty batch will not do: there the compiler reads the header otherwise.) That such a command touches no
+ * slot beyond what the call does without it is one of the verdicts.
+ * Settle scans, takes a step and scans again, up to its budget; the last scan takes nothing. So the settle with budget n is the one with n - 1,
+ * the taking of step n, and a scan of the pool that this step leaves. That scan is the settle with budget 0 on that pool: taken off, it
+ * leaves the taking alone. Where v is in slot 1, where each scan begins, the scan before the step is the look at v and nothing else: added, it
+ * gives look and taking.
+ * A load that the compiler puts off until the step is sure is in the taking, and not in a scan that takes nothing. So what a taking may
+ * read is a word that the scan before it did not, once. Where v is not in slot 1 that asks a little more than the rule does, since the scan
+ * looked at lower slots too. (Today a taking reads nothing in the library's archive, and in the cousin's one word that was put off.)
+ * A later step, or a second command, must also touch each word as often as it does as the first on that pool. (A compiler that treats the
+ * first apart could break this one verdict without a fault.) */
 #include "../include/chromatic.h"
 #include <inttypes.h>
 #include <stdatomic.h>
@@ -16,7 +23,7 @@
 #include <stdlib.h>
 #include <string.h>
 
-enum { HEADER = 4, SLOT = 4, MOST_SLOTS = 15, MOST_WORDS = HEADER + SLOT * MOST_SLOTS };
+enum { HEADER = 4, SLOT = 4, MOST_SLOTS = 127, MOST_COMMANDS = 2, MOST_WORDS = HEADER + SLOT * MOST_SLOTS };
 enum { KEY, LEFT, RIGHT, WEIGHT };
 
 static union {
@@ -45,11 +52,28 @@ struct counts {
     int32_t reads[MOST_WORDS], writes[MOST_WORDS];
 };
 
+/* By reference, since copies would lengthen the trace. */
 struct call {
     uint32_t code, number;
-    struct pool before, after;
-    struct counts touched;
+    const struct pool *before, *after;
+    const struct counts *touched; /* where they are counted */
 };
+
+static struct pool *new_pool(size_t words) {
+    static struct pool pools[2000];
+    static size_t count = 0;
+
+    if (count == sizeof pools / sizeof pools[0]) stop("too many pools");
+    pools[count].words = words;
+    return &pools[count++];
+}
+
+static struct counts *new_counts(void) {
+    struct counts *counts = counting ? calloc(1, sizeof *counts) : NULL;
+
+    if (counting && !counts) stop("there is no memory");
+    return counts;
+}
 
 /* The trace. */
 
@@ -129,88 +153,139 @@ static void known_accesses(void) {
     (void)byte[4 * 14 + 1];
 }
 
-/* A batch of one command; or the audit alone, where there is none; or, where there is no pool, the accesses that are known. */
-static struct call call(const struct pool *on, const uint8_t *command, size_t bytes) {
-    struct call c = {0};
-    uint32_t answer[CHROMATIC_ANSWER_WORDS] = {0};
+struct batch {
+    uint32_t commands;
+    size_t bytes;
+    uint8_t byte[8];
+};
+
+static const struct batch none = {0, 0, {0}};
+
+static struct batch then(const struct batch *before, const uint8_t *command, size_t bytes) {
+    struct batch batch = *before;
+
+    if (batch.commands == MOST_COMMANDS || batch.bytes + bytes > sizeof batch.byte) stop("a batch of the table is too long");
+    memcpy(batch.byte + batch.bytes, command, bytes);
+    batch.bytes += bytes;
+    batch.commands++;
+    return batch;
+}
+
+/* A slot up to 127 is one byte. */
+static struct batch then_step(const struct batch *before, uint32_t slot, uint32_t kind) {
+    const uint8_t command[] = {CHROMATIC_STEP, (uint8_t)slot, (uint8_t)kind};
+
+    return then(before, command, sizeof command);
+}
+
+/* A batch, with the answer of its last command; or the audit alone, where there is no command; or, where there is no pool, the accesses
+ * that are known. */
+static struct call call(const struct pool *on, const struct batch *batch) {
+    uint32_t answer[MOST_COMMANDS][CHROMATIC_ANSWER_WORDS] = {{0}};
+    const uint32_t last = batch->commands == 0 ? 0 : batch->commands - 1;
+    const size_t pool_bytes = on->words * sizeof on->word[0];
+    struct pool *after = new_pool(on->words);
+    struct counts *touched = new_counts();
     uint64_t whole = 0;
 
-    c.before = c.after = *on;
     if (!counting) {
-        memcpy(lent.word, on->word, sizeof lent.word);
+        memcpy(lent.word, on->word, pool_bytes);
         set_mark(1);
         if (on->words == 0) {
             known_accesses();
-        } else if (bytes == 0) {
+        } else if (batch->commands == 0) {
             whole = chromatic_audit(lent.word, on->words);
         } else {
-            whole = chromatic_batch(lent.word, on->words, command, bytes, answer, CHROMATIC_ANSWER_WORDS);
+            whole = chromatic_batch(lent.word, on->words, batch->byte, batch->bytes, answer[0], (size_t)batch->commands * CHROMATIC_ANSWER_WORDS);
         }
         set_mark(0);
         if (whole != 0) stop("a call is refused whole");
-        memcpy(c.after.word, lent.word, sizeof lent.word);
+        memcpy(after->word, lent.word, pool_bytes);
     }
     kept(answer, sizeof answer);
-    kept(&c.after, sizeof c.after);
-    if (counting) count_call(&c.touched);
-    c.code = answer[0];
-    c.number = answer[1];
-    return c;
+    if (pool_bytes > 0) kept(after->word, pool_bytes);
+    if (counting) count_call(touched);
+    return (struct call){answer[last][0], answer[last][1], on, after, touched};
 }
 
-static struct counts less(struct counts a, const struct counts *b) {
+static const struct counts *sum_of(const struct counts *a, int32_t sign, const struct counts *b) {
+    struct counts *sum = new_counts();
+
     for (size_t word = 0; counting && word < MOST_WORDS; word++) {
-        a.reads[word] -= b->reads[word];
-        a.writes[word] -= b->writes[word];
+        sum->reads[word] = a->reads[word] + sign * b->reads[word];
+        sum->writes[word] = a->writes[word] + sign * b->writes[word];
     }
-    return a;
+    return sum;
 }
 
-/* A step at a slot above C. */
-static struct call idle_call(const struct pool *on) {
-    static const uint8_t command[] = {CHROMATIC_STEP, 127, 4};
-
-    return call(on, command, sizeof command);
+static const struct counts *less(const struct counts *a, const struct counts *b) {
+    return sum_of(a, -1, b);
 }
 
-/* What a command did itself. */
-static struct call own(const struct pool *on, const uint8_t *command, size_t bytes) {
-    const struct call idle = idle_call(on);
-    struct call c = call(on, command, bytes);
+static const struct counts *plus(const struct counts *a, const struct counts *b) {
+    return sum_of(a, 1, b);
+}
 
-    c.touched = less(c.touched, &idle.touched);
+/* A step at slot 1,024, which is above every C. */
+static struct call idle_call(const struct pool *on, const struct batch *before) {
+    static const uint8_t command[] = {CHROMATIC_STEP, 0x80, 8, 4};
+    const struct batch batch = then(before, command, sizeof command);
+
+    return call(on, &batch);
+}
+
+/* What a command did itself, after those that are before it in the batch. Its pool is the one that they leave. */
+static struct call own(const struct pool *on, const struct batch *before, const uint8_t *command, size_t bytes) {
+    const struct call idle = idle_call(on, before);
+    const struct batch batch = then(before, command, bytes);
+    struct call c = call(on, &batch);
+
+    c.touched = less(c.touched, idle.touched);
+    c.before = idle.after;
     return c;
 }
 
-static struct call settle(const struct pool *on, uint8_t budget) {
-    const uint8_t command[] = {CHROMATIC_SETTLE, budget};
+static struct call settle(const struct pool *on, const struct batch *before, uint32_t budget) {
+    const uint8_t command[] = {CHROMATIC_SETTLE, (uint8_t)budget};
 
-    return own(on, command, sizeof command);
+    return own(on, before, command, sizeof command);
 }
 
-static struct pool loaded(const uint8_t *saved, size_t bytes) {
-    struct pool pool = {CHROMATIC_POOL_WORDS(saved[0]), {0}};
+static int same_pool(const struct pool *a, const struct pool *b) {
+    return a->words == b->words && memcmp(a->word, b->word, a->words * sizeof a->word[0]) == 0;
+}
 
-    if (saved[0] > MOST_SLOTS || chromatic_load(pool.word, pool.words, saved, bytes) != saved[1]) stop("a pool of the table is not sound");
+static const struct pool *loaded(const uint8_t *saved, size_t bytes) {
+    struct pool *pool = new_pool(CHROMATIC_POOL_WORDS(saved[0]));
+
+    if (saved[0] > MOST_SLOTS || chromatic_load(pool->word, pool->words, saved, bytes) != saved[1]) stop("a pool of the table is not sound");
     return pool;
 }
 
 /* Rows. */
 
-enum form { IDLE, COMMAND, STEP, SETTLED, TAKING, FORMS };
-static const char *const groups[FORMS] = {"a call", "another command", "a step command", "a step by settle: look and taking", "a step by settle: the taking alone"};
+enum form { IDLE, COMMAND, STEP, SECOND, SETTLED, TAKING, SETTLED_LATER, TAKING_LATER, FORMS };
+static const char *const groups[FORMS] = {"a call",
+                                          "another command",
+                                          "a step command",
+                                          "a step command, the second of its batch",
+                                          "a step by settle: look and taking",
+                                          "a step by settle: the taking alone",
+                                          "a later step by settle: look and taking",
+                                          "a later step by settle: the taking alone"};
 
 struct row {
     enum form form;
     char what[80];
     uint32_t slot, kind;   /* of a step */
     uint32_t code, number; /* as they should be */
-    int as_the_step;       /* whether the pool is as a step command leaves it */
+    int as_the_step;       /* whether the pool is as a step command by itself leaves it */
     struct call c;
-    struct counts look; /* of a taking: what was read and written before */
+    const struct counts *look;  /* of a taking: the scan before it */
+    const struct counts *alone; /* of a taking or a second command: what it does on its pool as the first */
 };
 
-static struct row rows[200];
+static struct row rows[300];
 static struct call known;
 static size_t row_count = 0;
 
@@ -223,21 +298,22 @@ static struct row *new_row(enum form form, const char *what) {
     return row;
 }
 
-/* The call around a command: what it touches beyond its audit. */
-static void idle_row(const struct pool *on) {
+/* The call around a command: what it touches beyond its audit, or beyond the command before. */
+static void idle_row(const struct pool *on, const struct batch *before) {
     struct row *row = new_row(IDLE, "the call around a command, its audit apart");
-    const struct call audit = call(on, NULL, 0);
+    const struct call without = call(on, before);
 
-    row->c = idle_call(on);
-    row->c.touched = less(row->c.touched, &audit.touched);
+    row->c = idle_call(on, before);
+    row->c.touched = less(row->c.touched, without.touched);
     row->code = CHROMATIC_NO_INNER_NODE;
-    row->as_the_step = 1;
+    row->as_the_step = same_pool(row->c.after, without.after);
+    row->c.before = without.after;
 }
 
 /* Saved sets: C, N, and the nodes, each before its left side and then its right one, so that the root is slot 1 and its left child slot 2. */
 #define INNER(weight, router) 2 * (weight) + 1, router
 #define LEAF(weight, key) 2 * (weight), key
-enum { MOST_BYTES = 2 + 2 * 15 };
+enum { MOST_BYTES = 2 + 2 * 19 };
 
 /* A step that is accepted. */
 struct stepped {
@@ -291,14 +367,15 @@ static uint32_t renamed(uint32_t slot, uint32_t a, uint32_t b) {
 }
 
 /* The same tree with two slots exchanged. */
-static struct pool exchanged(const struct pool *from, uint32_t a, uint32_t b) {
-    struct pool to = *from;
+static const struct pool *exchanged(const struct pool *from, uint32_t a, uint32_t b) {
+    struct pool *to = new_pool(from->words);
 
-    to.word[0] = renamed(from->word[0], a, b);
-    to.word[1] = renamed(from->word[1], a, b);
+    memcpy(to->word, from->word, from->words * sizeof from->word[0]);
+    to->word[0] = renamed(from->word[0], a, b);
+    to->word[1] = renamed(from->word[1], a, b);
     for (uint32_t slot = 1; slot < from->words / SLOT; slot++) {
         const uint32_t *old = &from->word[SLOT * slot];
-        uint32_t *new = &to.word[SLOT * renamed(slot, a, b)];
+        uint32_t *new = &to->word[SLOT * renamed(slot, a, b)];
         new[KEY] = old[KEY];
         new[LEFT] = renamed(old[LEFT], a, b);
         new[RIGHT] = renamed(old[RIGHT], a, b);
@@ -307,44 +384,156 @@ static struct pool exchanged(const struct pool *from, uint32_t a, uint32_t b) {
     return to;
 }
 
-static struct row *step_row(enum form form, const struct stepped *step, const struct call *c) {
+/* `at` is the pool on which the step should be taken. */
+static struct row *step_row(enum form form, const struct pool *at, uint32_t slot, uint32_t kind, const char *where, const struct call *c) {
+    const struct batch alone = then_step(&none, slot, kind);
+    const struct call step = call(at, &alone);
     char what[80];
     struct row *row;
 
-    snprintf(what, sizeof what, "kind %d: %s", step->kind, step->where);
+    snprintf(what, sizeof what, "kind %" PRIu32 ": %s", kind, where);
     row = new_row(form, what);
-    row->kind = step->kind;
+    row->slot = slot;
+    row->kind = row->number = kind;
     row->c = *c;
+    row->as_the_step = step.code == CHROMATIC_GOOD && same_pool(c->before, at) && same_pool(c->after, step.after);
     return row;
 }
 
-/* By settle. `after` is how a step command leaves this pool; v is slot 1. */
-static void settle_rows(const struct stepped *step, const struct pool *on, const struct pool *after) {
-    const struct call look = settle(on, 0), whole = settle(on, 1), scan_after = settle(&whole.after, 0);
+/* By a command, after what is before it in the batch. */
+static void command_row(const struct pool *on, const struct batch *before, uint32_t slot, uint32_t kind, const char *where) {
+    const uint8_t command[] = {CHROMATIC_STEP, (uint8_t)slot, (uint8_t)kind};
+    const struct call without = call(on, before), c = own(on, before, command, sizeof command);
+    struct row *row = step_row(before->commands == 0 ? STEP : SECOND, without.after, slot, kind, where, &c);
 
-    for (enum form form = SETTLED; form <= TAKING; form++) {
-        struct row *row = step_row(form, step, &whole);
-        row->slot = 1;
+    if (row->form == SECOND) row->alone = own(without.after, &none, command, sizeof command).touched;
+}
+
+/* By settle, after what is before it in the batch: the step that is its `turn`th. */
+static void settle_rows(const struct pool *on, const struct batch *before, uint32_t turn, const struct pool *at, uint32_t slot, uint32_t kind,
+                        const char *where) {
+    const int first = turn == 1 && before->commands == 0;
+    const struct call steps_before = settle(on, before, turn - 1), look = first ? steps_before : settle(at, &none, 0), whole = settle(on, before, turn),
+                      alone = first ? whole : settle(at, &none, 1), scan_after = settle(whole.after, &none, 0);
+    struct call taking = whole;
+
+    taking.before = steps_before.after;
+    taking.touched = less(less(whole.touched, steps_before.touched), scan_after.touched);
+    for (int with_look = slot == 1; with_look >= 0; with_look--) {
+        const enum form form = with_look ? (turn == 1 ? SETTLED : SETTLED_LATER) : (turn == 1 ? TAKING : TAKING_LATER);
+        struct row *row = step_row(form, at, slot, kind, where, &taking);
         row->code = whole.code == CHROMATIC_BUDGET_SPENT ? CHROMATIC_BUDGET_SPENT : CHROMATIC_GOOD; /* as more steps are left or not */
-        row->number = 1;
-        row->as_the_step = memcmp(&whole.after, after, sizeof *after) == 0;
-        row->c.touched = less(row->c.touched, &scan_after.touched);
-        if (form == TAKING) row->c.touched = less(row->c.touched, &look.touched);
+        row->number = turn;
         row->look = look.touched;
+        if (with_look) {
+            row->c.touched = plus(taking.touched, look.touched);
+        } else {
+            row->alone = less(less(alone.touched, look.touched), scan_after.touched);
+        }
     }
 }
 
 static void step_rows(const struct stepped *step) {
-    const struct pool pool = loaded(step->saved, saved_bytes(step->saved)), from_slot_1 = exchanged(&pool, step->slot, 1);
-    const uint8_t command[] = {CHROMATIC_STEP, step->slot, step->kind};
-    const struct call c = own(&pool, command, sizeof command);
-    const struct pool after = exchanged(&c.after, step->slot, 1);
-    struct row *row = step_row(STEP, step, &c);
+    const struct pool *pool = loaded(step->saved, saved_bytes(step->saved)), *from_slot_1 = exchanged(pool, step->slot, 1);
 
-    row->slot = step->slot;
-    row->number = step->kind;
-    row->as_the_step = 1;
-    if (step->lowest) settle_rows(step, &from_slot_1, &after);
+    idle_row(pool, &none);
+    command_row(pool, &none, step->slot, step->kind, step->where);
+    if (step->lowest) settle_rows(from_slot_1, &none, 1, from_slot_1, 1, step->kind, step->where);
+}
+
+/* A step that is accepted after another command: after a step that settle takes first, or after an insert, which settle follows in the batch. */
+struct second {
+    uint8_t kind, slot, from_slot_1; /* whether it is so with v in slot 1 too */
+    uint8_t first_bytes, first[3], saved[MOST_BYTES];
+    const char *where;
+};
+
+static const struct second seconds[] = {
+    {4, 1, 1, 3, {CHROMATIC_STEP, 6, 1}, {17, 17, INNER(1, 80), INNER(0, 20), INNER(1, 10), LEAF(1, 10), LEAF(1, 20), INNER(1, 50), INNER(0, 40), INNER(0, 30), LEAF(1, 30), LEAF(1, 40), LEAF(1, 50), INNER(0, 60), LEAF(1, 60), LEAF(1, 80), INNER(1, 90), LEAF(1, 90), LEAF(1, 100)}, "the root, after kind 1 at t"},
+    {4, 1, 1, 3, {CHROMATIC_STEP, 1, 6}, {7, 7, INNER(1, 30), INNER(1, 10), LEAF(1, 10), INNER(0, 20), LEAF(1, 20), LEAF(1, 30), LEAF(2, 40)}, "the root, after kind 6 at the root"},
+    {4, 2, 1, 3, {CHROMATIC_STEP, 1, 1}, {11, 11, INNER(1, 40), INNER(0, 30), INNER(0, 10), LEAF(1, 10), INNER(0, 20), LEAF(1, 20), LEAF(1, 30), LEAF(1, 40), INNER(0, 50), LEAF(1, 50), LEAF(1, 60)}, "its left child, after kind 1 at the root"},
+    {4, 5, 1, 3, {CHROMATIC_STEP, 1, 1}, {13, 11, INNER(1, 20), INNER(0, 10), LEAF(1, 10), LEAF(1, 20), INNER(0, 50), INNER(0, 30), LEAF(1, 30), INNER(0, 40), LEAF(1, 40), LEAF(1, 50), LEAF(1, 60)}, "its right child, after kind 1 at the root, slots free"},
+    {4, 9, 0, 3, {CHROMATIC_STEP, 2, 5}, {15, 15, INNER(1, 40), INNER(1, 10), LEAF(1, 10), INNER(0, 30), INNER(0, 20), LEAF(1, 20), LEAF(1, 30), LEAF(1, 40), INNER(1, 70), INNER(0, 50), LEAF(1, 50), INNER(0, 60), LEAF(1, 60), LEAF(1, 70), LEAF(1, 80)}, "its right child, slot 9, after kind 5 at its left one"},
+    {4, 9, 0, 3, {CHROMATIC_STEP, 2, 2}, {15, 15, INNER(1, 40), INNER(1, 30), INNER(0, 20), INNER(0, 10), LEAF(1, 10), LEAF(1, 20), LEAF(1, 30), LEAF(1, 40), INNER(1, 70), INNER(0, 50), LEAF(1, 50), INNER(0, 60), LEAF(1, 60), LEAF(1, 70), LEAF(1, 80)}, "its right child, slot 9, after kind 2 at its left one"},
+    {4, 11, 0, 3, {CHROMATIC_STEP, 2, 7}, {19, 19, INNER(1, 50), INNER(1, 10), LEAF(2, 10), INNER(0, 30), INNER(1, 20), LEAF(1, 20), LEAF(1, 30), INNER(1, 40), LEAF(1, 40), LEAF(1, 50), INNER(1, 80), INNER(0, 60), LEAF(2, 60), INNER(0, 70), LEAF(2, 70), LEAF(2, 80), INNER(1, 90), LEAF(1, 90), LEAF(1, 100)}, "its right child, slot 11, after kind 7 at its left one"},
+    {4, 1, 1, 2, {CHROMATIC_INSERT, 20}, {7, 5, INNER(1, 30), INNER(0, 10), LEAF(1, 10), LEAF(1, 30), LEAF(1, 40)}, "the root, after the insert that makes t"},
+    {4, 2, 1, 2, {CHROMATIC_INSERT, 55}, {13, 11, INNER(1, 40), INNER(1, 30), INNER(0, 10), LEAF(1, 10), INNER(0, 20), LEAF(1, 20), LEAF(1, 30), LEAF(1, 40), INNER(1, 50), LEAF(1, 50), LEAF(1, 60)}, "its left child, after an insert elsewhere"},
+    {5, 1, 1, 3, {CHROMATIC_STEP, 6, 1}, {17, 17, INNER(1, 20), INNER(1, 10), LEAF(1, 10), LEAF(1, 20), INNER(0, 80), INNER(1, 50), INNER(0, 30), LEAF(1, 30), LEAF(1, 50), INNER(0, 60), LEAF(1, 60), INNER(0, 70), LEAF(1, 70), LEAF(1, 80), INNER(1, 90), LEAF(1, 90), LEAF(1, 100)}, "the root, after kind 1 at t"},
+    {5, 1, 1, 3, {CHROMATIC_STEP, 1, 6}, {7, 7, INNER(1, 10), LEAF(2, 10), INNER(1, 30), INNER(0, 20), LEAF(1, 20), LEAF(1, 30), LEAF(1, 40)}, "the root, after kind 6 at the root"},
+    {5, 2, 1, 3, {CHROMATIC_STEP, 1, 1}, {11, 11, INNER(1, 40), INNER(0, 10), LEAF(1, 10), INNER(0, 30), INNER(0, 20), LEAF(1, 20), LEAF(1, 30), LEAF(1, 40), INNER(0, 50), LEAF(1, 50), LEAF(1, 60)}, "its left child, after kind 1 at the root"},
+    {5, 5, 1, 3, {CHROMATIC_STEP, 1, 1}, {13, 11, INNER(1, 20), INNER(0, 10), LEAF(1, 10), LEAF(1, 20), INNER(0, 30), LEAF(1, 30), INNER(0, 50), INNER(0, 40), LEAF(1, 40), LEAF(1, 50), LEAF(1, 60)}, "its right child, after kind 1 at the root, slots free"},
+    {5, 9, 0, 3, {CHROMATIC_STEP, 2, 4}, {15, 15, INNER(1, 40), INNER(1, 30), INNER(0, 10), LEAF(1, 10), INNER(0, 20), LEAF(1, 20), LEAF(1, 30), LEAF(1, 40), INNER(1, 50), LEAF(1, 50), INNER(0, 70), INNER(0, 60), LEAF(1, 60), LEAF(1, 70), LEAF(1, 80)}, "its right child, slot 9, after kind 4 at its left one"},
+    {5, 9, 0, 3, {CHROMATIC_STEP, 2, 3}, {15, 15, INNER(1, 40), INNER(1, 10), LEAF(1, 10), INNER(0, 20), LEAF(1, 20), INNER(0, 30), LEAF(1, 30), LEAF(1, 40), INNER(1, 50), LEAF(1, 50), INNER(0, 70), INNER(0, 60), LEAF(1, 60), LEAF(1, 70), LEAF(1, 80)}, "its right child, slot 9, after kind 3 at its left one"},
+    {5, 11, 0, 3, {CHROMATIC_STEP, 2, 8}, {19, 19, INNER(1, 50), INNER(1, 40), INNER(0, 20), INNER(1, 10), LEAF(1, 10), LEAF(1, 20), INNER(1, 30), LEAF(1, 30), LEAF(1, 40), LEAF(2, 50), INNER(1, 70), INNER(1, 60), LEAF(1, 60), LEAF(1, 70), INNER(0, 90), INNER(0, 80), LEAF(2, 80), LEAF(2, 90), LEAF(2, 100)}, "its right child, slot 11, after kind 8 at its left one"},
+    {5, 1, 1, 2, {CHROMATIC_INSERT, 20}, {7, 5, INNER(1, 10), LEAF(1, 10), INNER(0, 30), LEAF(1, 30), LEAF(1, 40)}, "the root, after the insert that makes t"},
+    {5, 2, 1, 2, {CHROMATIC_INSERT, 55}, {13, 11, INNER(1, 40), INNER(1, 10), LEAF(1, 10), INNER(0, 30), INNER(0, 20), LEAF(1, 20), LEAF(1, 30), LEAF(1, 40), INNER(1, 50), LEAF(1, 50), LEAF(1, 60)}, "its left child, after an insert elsewhere"},
+};
+
+static void second_rows(const struct second *second) {
+    const int by_settle = second->first[0] == CHROMATIC_STEP;
+    const uint32_t slot = second->from_slot_1 ? 1 : second->slot;
+    const struct pool *pool = loaded(second->saved, saved_bytes(second->saved)), *moved = exchanged(pool, second->slot, slot);
+    const struct batch first = then(&none, second->first, second->first_bytes),
+                       moved_first = by_settle ? then_step(&none, renamed(second->first[1], second->slot, slot), second->first[2]) : first;
+    const struct call after_first = call(moved, &moved_first);
+
+    idle_row(pool, &first);
+    command_row(pool, &first, second->slot, second->kind, second->where);
+    settle_rows(moved, by_settle ? &none : &first, by_settle ? 2 : 1, after_first.after, slot, second->kind, second->where);
+}
+
+/* A pool of 127 slots and 64 keys: a tree of black nodes over sixteen parts of four keys, in each of which kind 4 or kind 5 is allowed, in turn. */
+enum { PARTS = 16, PART_NODES = 7 };
+static uint32_t part_slot[PARTS];
+
+static uint32_t part_kind(uint32_t part) {
+    return 4 + part % 2;
+}
+
+/* The nodes of some parts, the first of them a slot. */
+static uint8_t *large_nodes(uint8_t *to, const uint8_t *from, uint32_t part, uint32_t parts) {
+    static const uint8_t nodes[2][2 * PART_NODES] = {{INNER(1, 3), INNER(0, 1), LEAF(1, 1), INNER(0, 2), LEAF(1, 2), LEAF(1, 3), LEAF(1, 4)},
+                                                     {INNER(1, 1), LEAF(1, 1), INNER(0, 3), INNER(0, 2), LEAF(1, 2), LEAF(1, 3), LEAF(1, 4)}};
+    const uint32_t keys_before = 4 * part;
+
+    if (parts > 1) {
+        *to++ = 2 * 1 + 1;
+        *to++ = (uint8_t)(keys_before + 4 * (parts / 2));
+        to = large_nodes(to, from, part, parts / 2);
+        return large_nodes(to, from, part + parts / 2, parts / 2);
+    }
+    part_slot[part] = (uint32_t)(to - from) / 2 + 1;
+    for (size_t i = 0; i < 2 * PART_NODES; i += 2) {
+        *to++ = nodes[part % 2][i];
+        *to++ = (uint8_t)(nodes[part % 2][i + 1] + keys_before);
+    }
+    return to;
+}
+
+/* The last two parts' steps by a command and as settle's first; and of all sixteen that settle takes, from the lowest slot on, the second,
+ * the third and the last two. */
+static void large_rows(void) {
+    static uint8_t saved[2 + 2 * MOST_SLOTS] = {MOST_SLOTS, MOST_SLOTS};
+    const struct pool *pool, *at;
+    char where[60];
+
+    if (large_nodes(saved + 2, saved + 2, 0, PARTS) != saved + sizeof saved) stop("the large pool has other nodes");
+    pool = at = loaded(saved, sizeof saved);
+    idle_row(pool, &none);
+    for (uint32_t part = 0; part < PARTS; part++) {
+        const uint32_t slot = part_slot[part], kind = part_kind(part);
+        const struct batch first = then_step(&none, part_slot[0], part_kind(0)), step = then_step(&none, slot, kind);
+        snprintf(where, sizeof where, "127 slots, 64 keys, slot %" PRIu32, slot);
+        if (part >= PARTS - 2) {
+            const struct pool *from_slot_1 = exchanged(pool, slot, 1);
+            command_row(pool, &none, slot, kind, where);
+            command_row(pool, &first, slot, kind, where);
+            settle_rows(from_slot_1, &none, 1, from_slot_1, 1, kind, where);
+        }
+        snprintf(where, sizeof where, "127 slots, 64 keys, slot %" PRIu32 ", after %" PRIu32 " of kinds 4 and 5", slot, part);
+        if (part == 1 || part == 2 || part >= PARTS - 2) settle_rows(pool, &none, part + 1, at, slot, kind, where);
+        at = call(at, &step).after;
+    }
 }
 
 /* Other commands, and steps that are refused. */
@@ -389,13 +578,13 @@ static const struct asked asked[] = {
 };
 
 static void asked_row(const struct asked *a) {
-    const struct pool pool = loaded(a->saved, a->saved == tall ? sizeof tall : saved_bytes(a->saved));
+    const struct pool *pool = loaded(a->saved, a->saved == tall ? sizeof tall : saved_bytes(a->saved));
     struct row *row = new_row(COMMAND, a->what);
 
     row->code = a->code;
     row->number = a->number;
     row->as_the_step = 1;
-    row->c = own(&pool, a->command, a->command_bytes);
+    row->c = own(pool, &none, a->command, a->command_bytes);
 }
 
 /* The table. */
@@ -441,11 +630,11 @@ static struct sum summed(const int32_t *times) {
 }
 
 static int changed(const struct call *c, size_t word) {
-    return c->before.word[word] != c->after.word[word];
+    return c->before->word[word] != c->after->word[word];
 }
 
 static void print_row(const struct row *row) {
-    const struct counts *touched = &row->c.touched;
+    const struct counts *touched = row->c.touched;
     const struct sum reads = summed(touched->reads), writes = summed(touched->writes);
     int others = 0;
 
@@ -493,28 +682,33 @@ static void no_word(const struct row *row, const int *bad, const int32_t *times,
 
 /* v's router and its child away from u; u's child that held t; t's router and both children. */
 static void six_words(const struct row *row, int *six) {
-    const uint32_t *word = row->c.before.word;
+    const uint32_t *word = row->c.before->word;
     const size_t side = row->kind == 4 ? LEFT : RIGHT, away = LEFT + RIGHT - side;
     const size_t v = SLOT * (size_t)row->slot, u = SLOT * (size_t)word[v + side], t = SLOT * (size_t)word[u + away];
 
     six[v + KEY] = six[v + away] = six[u + away] = six[t + KEY] = six[t + LEFT] = six[t + RIGHT] = 1;
 }
 
+static int is_taking(enum form form) {
+    return form == TAKING || form == TAKING_LATER;
+}
+
 static void judge_row(const struct row *row) {
-    const struct counts *touched = &row->c.touched;
+    const struct counts *touched = row->c.touched;
+    const int taking = is_taking(row->form);
     int six[MOST_WORDS] = {0}, again[MOST_WORDS] = {0}, not_once[MOST_WORDS] = {0}, same[MOST_WORDS] = {0}, other[MOST_WORDS] = {0}, read[MOST_WORDS] = {0},
         written[MOST_WORDS] = {0};
 
     six_words(row, six);
     for (size_t word = 0; word < MOST_WORDS; word++) {
-        again[word] = word >= HEADER && touched->reads[word] + (row->form == TAKING ? row->look.reads[word] : 0) > 1;
+        again[word] = word >= HEADER && touched->reads[word] > 0 && touched->reads[word] + (taking ? row->look->reads[word] : 0) > 1;
         not_once[word] = six[word] && touched->writes[word] != 1;
         same[word] = six[word] && !changed(&row->c, word);
         other[word] = word >= HEADER && !six[word] && touched->writes[word] != 0;
         read[word] = word < HEADER && touched->reads[word] != 0;
         written[word] = word < HEADER && touched->writes[word] != 0;
     }
-    no_word(row, again, touched->reads, row->form == TAKING ? "read again after the look" : "read more than once");
+    no_word(row, again, touched->reads, taking ? "read again after the look" : "read more than once");
     no_word(row, read, touched->reads, "read of the header");
     no_word(row, not_once, touched->writes, "of the six words, not written once");
     no_word(row, same, touched->writes, "of the six words, with the value that it had");
@@ -529,25 +723,25 @@ static void judge_kind(enum form form, uint32_t kind) {
     for (size_t i = 0; i < row_count; i++) {
         if (rows[i].form != form || rows[i].kind != kind) continue;
         judge_row(&rows[i]);
-        reads += summed(rows[i].c.touched.reads).all;
+        reads += summed(rows[i].c.touched->reads).all;
         pools++;
     }
     if (pools == 0) stop("a kind without a pool");
     if (failed > failed_before) return;
     printf("passed: %s, kind %" PRIu32 ", %d pools: ", groups[form], kind, pools);
-    printf("%s; ", reads == 0 ? "no word read" : form == TAKING ? "no word read again" : "each word read once at most");
+    printf("%s; ", reads == 0 ? "no word read" : is_taking(form) ? "no word read again" : "each word read once at most");
     puts("the six words written, each once and with another value; no other word; no header word");
 }
 
 static int known_are_counted(void) {
     const struct counts want = {.reads = {[5] = 2, [6] = 1, [7] = 1, [13] = 1, [14] = 1}, .writes = {[8] = 1, [9] = 1, [11] = 1, [13] = 1}};
 
-    return memcmp(&known.touched, &want, sizeof want) == 0;
+    return memcmp(known.touched, &want, sizeof want) == 0;
 }
 
 /* The header alone is read beyond the audit, and nothing is written. */
 static int idle_is_idle(const struct row *row) {
-    const struct sum reads = summed(row->c.touched.reads), writes = summed(row->c.touched.writes);
+    const struct sum reads = summed(row->c.touched->reads), writes = summed(row->c.touched->writes);
 
     return reads.words == reads.header && writes.words == 0;
 }
@@ -561,42 +755,48 @@ static int no_less(const struct counts *touched) {
 
 static int written_where_changed(const struct call *c) {
     for (size_t word = 0; word < MOST_WORDS; word++) {
-        if (changed(c, word) && c->touched.writes[word] == 0) return 0;
+        if (changed(c, word) && c->touched->writes[word] == 0) return 0;
     }
     return 1;
 }
 
+static int as_the_first(const struct row *row) {
+    if (!row->alone || memcmp(row->alone, row->c.touched, sizeof *row->alone) == 0) return 1;
+    printf("%s, %s: touches words otherwise than as the first\n", groups[row->form], row->what);
+    return 0;
+}
+
 static void judge_rows(void) {
-    int idle = 1, answers = 1, counts = 1;
+    int idle = 1, answers = 1, counts = 1, first = 1;
 
     for (size_t i = 0; i < row_count; i++) {
         const struct row *row = &rows[i];
         const int answered = row->c.code == row->code && row->c.number == row->number && row->as_the_step;
         if (!answered) printf("%s, %s: answered %" PRIu32 " %" PRIu32 "\n", groups[row->form], row->what, row->c.code, row->c.number);
         answers &= answered;
-        counts &= no_less(&row->c.touched) && written_where_changed(&row->c);
+        counts &= no_less(row->c.touched) && written_where_changed(&row->c);
+        first &= as_the_first(row);
         if (row->form == IDLE) idle &= idle_is_idle(row);
     }
     verdict(known_are_counted(), "accesses that are known are counted so");
-    verdict(idle, "the call around a command touches no slot beyond its audit, and writes nothing");
-    verdict(answers, "every command is answered as it should, and settle takes the same step");
+    verdict(idle, "the call around a command, first or second, touches no slot beyond what it does without, and writes nothing");
+    verdict(answers, "every command is answered as it should, and settle, or a second command, takes the same step");
     verdict(counts, "no count is below 0, and every word that changed was written");
+    verdict(first, "a later step by settle, or a second command, touches each word as often as it does as the first on that pool");
 }
 
 static void perform_or_count(void) {
-    static const struct pool none = {0, {0}};
+    static const struct pool no_pool = {0, {0}};
 
-    known = call(&none, NULL, 0);
-    for (size_t i = 0; i < sizeof steps / sizeof steps[0]; i++) {
-        const struct pool pool = loaded(steps[i].saved, saved_bytes(steps[i].saved));
-        idle_row(&pool);
-    }
+    known = call(&no_pool, &none);
     for (size_t i = 0; i < sizeof steps / sizeof steps[0]; i++) step_rows(&steps[i]);
+    for (size_t i = 0; i < sizeof seconds / sizeof seconds[0]; i++) second_rows(&seconds[i]);
+    large_rows();
     for (size_t i = 0; i < sizeof asked / sizeof asked[0]; i++) asked_row(&asked[i]);
 }
 
 static void print_all(void) {
-    static const enum form printed[] = {IDLE, STEP, SETTLED, TAKING, COMMAND};
+    static const enum form printed[] = {IDLE, STEP, SECOND, SETTLED, TAKING, SETTLED_LATER, TAKING_LATER, COMMAND};
 
     puts("Columns: reads, of how many words, how often the word that is read most; writes, to how many words, how many of these have another");
     puts("value than before; words of the header that are read, and written. v is the node of the step, u its red child, t u's red child, a u's");
