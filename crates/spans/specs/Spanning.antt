@@ -1,16 +1,22 @@
--- The smallest key at or above a given one, on words (serves RULES 17): what the code of this crate answers on any words, the root given
--- by value. That this is `nextKey` where the words show a sound State is proved in proofs/.
+-- Document 02 (vii) on words (RULES 18; the smallest key at or above a given one serves RULES 17 too): what the code of this crate answers and
+-- leaves on any words, the root or the header given by value. That this is `nextFrom`, `countSpan` and `deleteSpan` where the words show a sound
+-- State is proved in proofs/.
 use mathlib.Core.Bool.{true, false}
 use mathlib.Core.List.{List}
-use lib.Dec.{eqb, leb}
-use Prim.Native.Nat.{ℕ, zero, suc}
+use lib.Dec.{eqb, leb, ltb}
+use Prim.Native.Nat.{ℕ, zero, suc, _+_}
 use Rattle.spans.specs.declared.Turned.{Turned}
+use Rattle.spans.specs.declared.Tally.{Tally}
+use Rattle.format.specs.declared.Header.{Header}
 use Rattle.format.specs.declared.Slot.{Slot}
-use Rattle.format.specs.Words.{headerOf, slotAt, slotsIn}
+use Rattle.format.specs.Words.{headerOf, slotAt, slotsIn, lastSlot}
+use Rattle.format.specs.Performing.{Written, written, wordsAfter}
 use Rattle.tree.specs.declared.Answer.{Answer}
-use Rattle.tree.specs.declared.Answer.the-variants.{Done, Refused}
+use Rattle.tree.specs.declared.Answer.the-variants.{Done, Refused, Spent}
 use Rattle.tree.specs.declared.Refusal.the-variants.{KeyAbsent}
-use Rattle.updates.specs.Updating.{toward, wayTo}
+use Rattle.tree.specs.Tree.{one}
+use Rattle.tree.specs.Spans.{within}
+use Rattle.updates.specs.Updating.{toward, wayTo, deleteUnder}
 
 abbrev pub turned : ℕ → ℕ → Turned
 turned slot beside = record { slot = slot; beside = beside }
@@ -49,3 +55,56 @@ atOrAbove p root x = elim (eqb root 0) [ true ↦ Refused KeyAbsent | false ↦ 
 -- The entry of a pool: the header is read.
 unfoldable pub nextAnswer : List ℕ → ℕ → Answer
 nextAnswer p x = atOrAbove p ((headerOf p) .root) x
+
+-- RULES 18.4: "the number of keys from a to b". What a walk finds: so many keys, and how many slots it may still visit.
+abbrev pub tally : ℕ → ℕ → Tally
+tally keys left = record { keys = keys; left = left }
+
+-- Under slot s, at most n slots down, with `most` slots that may be visited: no key on the left of a router below a is counted, and none on the right
+-- of one that is b or above, so no walk goes there.
+unfoldable pub tallyFrom : ℕ → List ℕ → (a b s most : ℕ) → Tally
+tallyFrom zero p a b s most = tally 0 most
+tallyFrom (suc n) p a b s zero = tally 0 0
+tallyFrom (suc n) p a b s (suc most) = let c = slotAt p s in elim (eqb (c .left) 0) [
+  | true ↦ tally (one (within a b (c .key))) most
+  | false ↦
+      let l = elim (leb a (c .key)) [ true ↦ tallyFrom n p a b (c .left) most | false ↦ tally 0 most ] in
+      let r = elim (ltb (c .key) b) [ true ↦ tallyFrom n p a b (c .right) (l .left) | false ↦ tally 0 (l .left) ] in
+      tally (l .keys + r .keys) (r .left)
+]
+
+-- the whole tree, none where the root is 0
+unfoldable pub countUnder : List ℕ → (root a b : ℕ) → Answer
+countUnder p root a b = elim (eqb root 0) [ true ↦ Done 0 | false ↦ Done ((tallyFrom (lastSlot p) p a b root (lastSlot p)) .keys) ]
+
+-- RULES 18.5: "delete all keys from a to b, smallest first". The next to go: the smallest at or above x, where that is not above b.
+unfoldable pub notAbove : ℕ → Answer → Answer
+notAbove b (Done k) = elim (leb k b) [ true ↦ Done k | false ↦ Refused KeyAbsent ]
+notAbove b (Refused f) = Refused KeyAbsent
+notAbove b (Spent n) = Refused KeyAbsent
+
+unfoldable pub nextTo : List ℕ → (root x b : ℕ) → Answer
+nextTo p root x b = elim (leb x b) [ true ↦ notAbove b (atOrAbove p root x) | false ↦ Refused KeyAbsent ]
+
+-- From x on, at most n keys; so many are gone.
+unfoldable pub deleteFrom : ℕ → (x b gone : ℕ) → List ℕ → Header → Written
+deleteFrom zero x b gone p h = written p (Done gone) h
+deleteFrom (suc n) x b gone p h = elim (nextTo p (h .root) x b) [
+  | Done k ↦ let w = deleteUnder p h k in deleteFrom n (suc k) b (suc gone) (w .words) (w .result .header)
+  | Refused f ↦ written p (Done gone) h
+  | Spent m ↦ written p (Done gone) h
+]
+
+-- no span has more keys than the pool has slots
+unfoldable pub deleteSpanUnder : List ℕ → Header → (a b : ℕ) → Written
+deleteSpanUnder p h a b = deleteFrom (lastSlot p) a b 0 p h
+
+-- The entries of a pool.
+unfoldable pub countAnswer : List ℕ → (a b : ℕ) → Answer
+countAnswer p a b = countUnder p ((headerOf p) .root) a b
+
+unfoldable pub deleteSpanAnswer : List ℕ → (a b : ℕ) → Answer
+deleteSpanAnswer p a b = (deleteSpanUnder p (headerOf p) a b) .result .answer
+
+unfoldable pub deleteSpanWords : List ℕ → (a b : ℕ) → List ℕ
+deleteSpanWords p a b = wordsAfter (deleteSpanUnder p (headerOf p) a b)

@@ -1,15 +1,20 @@
-// The smallest key at or above a given one, on a pool's words, under a root that the caller has; and the same for a pool whose header
-// lies in its first words. On any words it ends and is an equation; what it means on words that show a sound State is said by
-// `next-shows`. It goes down at most two ways, each of at most C slots.
+// 02 (vii): the smallest key at or above a given one, the number of keys of a span, and deleting them, on a pool's words under a root or a header
+// that the caller has; and the same for a pool whose header lies in its first words. On any words they end and are equations; what they mean
+// on words that show a sound State is said by `next-shows`, `count-shows` and `span-shows`.
+use format::Header;
+use format::Performed;
 use format::Slot;
 use slots::get_header;
 use slots::get_slot;
+use slots::last_slot;
+use slots::put_header;
 use slots::slots_in;
 use tree::Answer;
 use tree::Refusal;
+use updates::delete_under;
 use updates::descend;
 ghost use mathlib.Core.Path.{_≡_};
-ghost use Rattle.spans.specs.Spanning.{turn, turnsTo, nextBeside, atOrAbove, nextAnswer};
+ghost use Rattle.spans.specs.Spanning.{turn, turnsTo, nextBeside, atOrAbove, nextAnswer, tallyFrom, countUnder, nextTo, deleteSpanUnder, countAnswer, deleteSpanAnswer, deleteSpanWords};
 
 // Where a search is, and the right child at its last turn to the left, 0 before the first.
 struct Turned {
@@ -66,7 +71,8 @@ fn next_beside(pool: &[u32], s: u32, key: u32) -> Answer
     Answer::Done(c.key)
 }
 
-// The smallest key at or above key, in the tree under the root; 6 if there is none. 01: "root slot (0 if empty)".
+// The smallest key at or above key, in the tree under the root; 6 if there is none. 01: "root slot (0 if empty)". It goes down one way, and where
+// that ends below key a second one, each of at most C slots.
 pub fn at_or_above(pool: &[u32], root: u32, key: u32) -> Answer
     ensures answer { λ r. ⌜ r ≡ atOrAbove (now (pool .entry)) root key ⌝ }
 {
@@ -86,4 +92,117 @@ pub fn next_key(pool: &[u32], key: u32) -> Answer
 {
     let h = get_header(pool);
     at_or_above(pool, h.root, key)
+}
+
+// What a walk over a subtree finds: how many keys of the span, and how many slots it may still visit.
+struct Tally {
+    keys: u32,
+    left: u32,
+}
+
+// The keys from a to b under slot s, at most `deep` slots down; at most `most` slots are visited. All keys on the left of a router are at most the
+// router and all on the right are above it, so a side without a key of the span is not entered.
+fn tally(pool: &[u32], a: u32, b: u32, s: u32, deep: u32, most: u32) -> Tally
+    ensures { λ r. ⌜ r ≡ tallyFrom deep (now (pool .entry)) a b s most ⌝ }
+{
+    if deep < 1 {
+        return Tally { keys: 0, left: most };
+    }
+    if most < 1 {
+        return Tally { keys: 0, left: 0 };
+    }
+    let c = get_slot(pool, s);
+    if c.left == 0 {
+        return Tally {
+            keys: one_within(a, b, c.key),
+            left: most - 1,
+        };
+    }
+    let l = if a <= c.key {
+        tally(pool, a, b, c.left, deep - 1, most - 1)
+    } else {
+        Tally { keys: 0, left: most - 1 }
+    };
+    let r = if c.key < b {
+        tally(pool, a, b, c.right, deep - 1, l.left)
+    } else {
+        Tally { keys: 0, left: l.left }
+    };
+    Tally {
+        keys: l.keys + r.keys,
+        left: r.left,
+    }
+}
+
+// How many keys from a to b stand in the tree under the root.
+pub fn count_under(pool: &[u32], root: u32, a: u32, b: u32) -> Answer
+    ensures answer { λ r. ⌜ r ≡ countUnder (now (pool .entry)) root a b ⌝ }
+{
+    if root == 0 {
+        return Answer::Done(0);
+    }
+    let slots = last_slot(pool);
+    let found = tally(pool, a, b, root, slots, slots);
+    Answer::Done(found.keys)
+}
+
+pub fn count(pool: &[u32], a: u32, b: u32) -> Answer
+    ensures answer { λ r. ⌜ r ≡ countAnswer (now (pool .entry)) a b ⌝ }
+{
+    let h = get_header(pool);
+    count_under(pool, h.root, a, b)
+}
+
+// The smallest key from `next` to b, in the tree under the root; 6 if there is none. `next` may be one more than the last 32-bit number.
+fn next_to(pool: &[u32], root: u32, next: u64, b: u32) -> Answer
+    ensures { λ r. ⌜ r ≡ nextTo (now (pool .entry)) root next b ⌝ }
+{
+    if (b as u64) < next {
+        return Answer::Refused(Refusal::KeyAbsent);
+    }
+    let Answer::Done(key) = at_or_above(pool, root, next as u32) else {
+        return Answer::Refused(Refusal::KeyAbsent);
+    };
+    if b < key {
+        return Answer::Refused(Refusal::KeyAbsent);
+    }
+    Answer::Done(key)
+}
+
+// 02 (vii): "delete all keys from a to b, smallest first, answering how many went." Each is found by one descent and deleted by another.
+pub fn delete_span_under(pool: &mut [u32], h: Header, a: u32, b: u32) -> Performed
+    ensures result { λ r. ⌜ r ≡ (deleteSpanUnder (now (pool .entry)) h a b) .result ⌝ }
+    ensures pool { λ _. ⌜ now (pool .exit) ≡ (deleteSpanUnder (now (pool .entry)) h a b) .words ⌝ }
+{
+    let mut header = h;
+    let mut next = a as u64;
+    let mut gone: u32 = 0;
+    let mut left = last_slot(pool);
+    while 0 < left {
+        let Answer::Done(key) = next_to(pool, header.root, next, b) else {
+            return Performed {
+                answer: Answer::Done(gone),
+                header,
+            };
+        };
+        let one = delete_under(pool, header, key);
+        header = one.header;
+        next = key as u64 + 1;
+        gone += 1;
+        left -= 1;
+    }
+    Performed {
+        answer: Answer::Done(gone),
+        header,
+    }
+}
+
+pub fn delete_span(pool: &mut [u32], a: u32, b: u32) -> Answer
+    ensures answer { λ r. ⌜ r ≡ deleteSpanAnswer (now (pool .entry)) a b ⌝ }
+    ensures pool { λ _. ⌜ now (pool .exit) ≡ deleteSpanWords (now (pool .entry)) a b ⌝ }
+{
+    let h = get_header(pool);
+    let d = delete_span_under(pool, h, a, b);
+    put_header(pool, d.header);
+    d.answer
 }
