@@ -13,7 +13,7 @@ use lib.Dec.{leb}
 use lib.ListN.{length}
 use borrow.Author.Tests.{le-leb, lt-leb}
 use native.Mathlib.Omega.{arith}
-use Prim.Native.Nat.{ℕ, zero, suc, _+_, _≤_, _<_}
+use Prim.Native.Nat.{ℕ, zero, suc, _+_, _-_, _≤_, _<_}
 use Rattle.tree.specs.Codes.{codeOf}
 use Rattle.tree.specs.Tree.{countIn}
 use Rattle.tree.specs.State.{State, keysOf, isIn, Sound, Outcome, delete}
@@ -320,3 +320,37 @@ span-none a b S = go (keysFrom a b S)
     go : (ks : List ℕ) → length ks ≡ 0 → deleteEach ks S ≡ S
     go [] e = refl
     go (k ∷ ks) e = absurd (omega arith)
+
+-- A span has as many keys as there are numbers from a to b in the list, each as often as it stands there.
+
+-- how often the n numbers from x on stand in a list
+unfoldable pub timesFrom : (n x : ℕ) → List ℕ → ℕ
+timesFrom zero x ks = 0
+timesFrom (suc n) x ks = countIn x ks + timesFrom n (suc x) ks
+
+times-none : (n x : ℕ) → timesFrom n x [] ≡ 0
+unfolding timesFrom countIn
+times-none zero x = refl
+times-none (suc n) x = omega (arith, times-none n (suc x))
+
+times-other : (n x k : ℕ) (ks : List ℕ) → ((y : ℕ) → x ≤ y → y < x + n → y ≢ k) → timesFrom n x (k ∷ ks) ≡ timesFrom n x ks
+unfolding timesFrom countIn
+times-other zero x k ks f = refl
+times-other (suc n) x k ks f =
+    omega (arith, one-other x k (f x (omega arith) (omega arith)), times-other n (suc x) k ks (λ y h i. f y (omega arith) (omega arith)))
+
+times-one : (n x k : ℕ) (ks : List ℕ) → x ≤ k → k < x + n → timesFrom n x (k ∷ ks) ≡ timesFrom n x ks + 1
+unfolding timesFrom countIn
+times-one zero x k ks h i = absurd (omega arith)
+times-one (suc n) x k ks h i = same-or-not x k
+    (λ e. omega (arith, one-same x k e, times-other n (suc x) k ks (λ y l u d. absurd (omega arith))))
+    (λ d. omega (arith, one-other x k d, times-one n (suc x) k ks (omega arith) (omega arith)))
+
+pub span-times : (a b : ℕ) (ks : List ℕ) → length (spanOf a b ks) ≡ timesFrom (suc b - a) a ks
+unfolding spanOf
+span-times a b [] = sym (times-none (suc b - a) a)
+span-times a b (k ∷ ks) = within-or-not a b k
+    (λ l u. rw (span-in a b k ks l u) (omega (arith, span-times a b ks, times-one (suc b - a) a k ks l (omega arith))))
+    (λ e.
+      rw (span-out a b k ks e)
+      (span-times a b ks ∙ sym (times-other (suc b - a) a k ks (λ y l u d. false≢true (sym e ∙ (ap (within a b) (sym d) ∙ inside a b y l (omega arith)))))))
