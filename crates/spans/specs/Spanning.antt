@@ -1,7 +1,7 @@
 -- Document 02 (vii) on words (RULES 18; the smallest key at or above a given one serves RULES 17 too): what the code of this crate answers and
 -- leaves on any words, the root or the header given by value. That this is `nextFrom`, `countSpan` and `deleteSpan` where the words show a sound
 -- State is proved in proofs/.
-use mathlib.Core.Bool.{true, false}
+use mathlib.Core.Bool.{Bool, true, false}
 use mathlib.Core.List.{List}
 use lib.Dec.{eqb, leb, ltb}
 use Prim.Native.Nat.{ℕ, zero, suc, _+_}
@@ -60,6 +60,13 @@ nextAnswer p x = atOrAbove p ((headerOf p) .root) x
 abbrev pub tally : ℕ → ℕ → Tally
 tally keys left = record { keys = keys; left = left }
 
+-- A side that is entered, or not; and two sides, the second with what the first has left of the slots.
+unfoldable pub entering : Bool → (ℕ → Tally) → ℕ → Tally
+entering goes side most = elim goes [ true ↦ side most | false ↦ tally 0 most ]
+
+unfoldable pub besides : Tally → (ℕ → Tally) → Tally
+besides l side = let r = side (l .left) in tally (l .keys + r .keys) (r .left)
+
 -- Under slot s, at most n slots down, with `most` slots that may be visited: no key on the left of a router below a is counted, and none on the right
 -- of one that is b or above, so no walk goes there.
 unfoldable pub tallyFrom : ℕ → List ℕ → (a b s most : ℕ) → Tally
@@ -67,10 +74,7 @@ tallyFrom zero p a b s most = tally 0 most
 tallyFrom (suc n) p a b s zero = tally 0 0
 tallyFrom (suc n) p a b s (suc most) = let c = slotAt p s in elim (eqb (c .left) 0) [
   | true ↦ tally (one (within a b (c .key))) most
-  | false ↦
-      let l = elim (leb a (c .key)) [ true ↦ tallyFrom n p a b (c .left) most | false ↦ tally 0 most ] in
-      let r = elim (ltb (c .key) b) [ true ↦ tallyFrom n p a b (c .right) (l .left) | false ↦ tally 0 (l .left) ] in
-      tally (l .keys + r .keys) (r .left)
+  | false ↦ besides (entering (leb a (c .key)) (tallyFrom n p a b (c .left)) most) (entering (ltb (c .key) b) (tallyFrom n p a b (c .right)))
 ]
 
 -- the whole tree, none where the root is 0
