@@ -1,5 +1,7 @@
 pub mod Tallies
 pub mod SpanTurns
+pub mod Walks
 pub mod Ways
 pub mod NextShows
+pub mod CountShows
 pub mod Decides

@@ -20,6 +20,7 @@ pub mod Delete
 pub mod Updated
 pub mod Spans
 pub mod SpanStates
+pub mod SpanTrees
 pub mod Below
 pub mod Excess
 pub mod Limits

@@ -108,9 +108,9 @@ span-first x b k [] r e h = absurd (Option·some-ne-none k (sym e))
 span-first x b k (j ∷ ks) r e h = either-way x j
     (λ i. here i ∙ ap (λ (m : ℕ). m ∷ spanOf (suc m) b (j ∷ ks)) (first-from x k j ks e i))
     (λ i.
-      span-out x b j ks (below-it x b j i)
-      ∙ (span-first x b k ks (r .1) (first-after x j ks e i) h
-      ∙ ap (λ (ms : List ℕ). k ∷ ms) (sym (span-out (suc k) b j ks (below-it (suc k) b j (omega (arith, first-at x k ks (first-after x j ks e i))))))))
+    span-out x b j ks (below-it x b j i)
+    ∙ (span-first x b k ks (r .1) (first-after x j ks e i) h
+    ∙ ap (λ (ms : List ℕ). k ∷ ms) (sym (span-out (suc k) b j ks (below-it (suc k) b j (omega (arith, first-at x k ks (first-after x j ks e i))))))))
   where
     here : x ≤ j → spanOf x b (j ∷ ks) ≡ j ∷ spanOf (suc j) b (j ∷ ks)
     here i =
@@ -138,8 +138,8 @@ rising-same (k ∷ ks) [] r s f = absurd (omega (arith, f k, one-same k k refl))
 rising-same (k ∷ ks) (m ∷ ms) r s f = same-or-not k m
     (λ e. let rest = rising-same ks ms (r .1) (s .1) (λ y. omega (arith, f y, ap (λ (z : ℕ). countIn y (z ∷ [])) e)) in cc)
     (λ n. either-way k m
-      (λ h. absurd (omega (arith, f k, one-same k k refl, one-other k m n, none-here k ms (all-from k m ms (omega arith) (s .0)))))
-      (λ h. absurd (omega (arith, f m, one-same m m refl, one-other m k (λ e. n (sym e)), none-here m ks (all-from m k ks h (r .0))))))
+    (λ h. absurd (omega (arith, f k, one-same k k refl, one-other k m n, none-here k ms (all-from k m ms (omega arith) (s .0)))))
+    (λ h. absurd (omega (arith, f m, one-same m m refl, one-other m k (λ e. n (sym e)), none-here m ks (all-from m k ks h (r .0))))))
 
 -- A span has the numbers of its list that are within it, and rises as the list does.
 
@@ -361,5 +361,5 @@ span-times a b [] = sym (times-none (suc b - a) a)
 span-times a b (k ∷ ks) = within-or-not a b k
     (λ l u. rw (span-in a b k ks l u) (omega (arith, span-times a b ks, times-one (suc b - a) a k ks l (omega arith))))
     (λ e.
-      rw (span-out a b k ks e)
-      (span-times a b ks ∙ sym (times-other (suc b - a) a k ks (λ y l u d. false≢true (sym e ∙ (ap (within a b) (sym d) ∙ inside a b y l (omega arith)))))))
+    rw (span-out a b k ks e)
+    (span-times a b ks ∙ sym (times-other (suc b - a) a k ks (λ y l u d. false≢true (sym e ∙ (ap (within a b) (sym d) ∙ inside a b y l (omega arith)))))))
