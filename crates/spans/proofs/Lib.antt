@@ -4,4 +4,5 @@ pub mod Walks
 pub mod Ways
 pub mod NextShows
 pub mod CountShows
+pub mod SpanShows
 pub mod Decides

@@ -2,7 +2,7 @@
 -- leaves on any words, the root or the header given by value. That this is `nextFrom`, `countSpan` and `deleteSpan` where the words show a sound
 -- State is proved in proofs/.
 use mathlib.Core.Bool.{Bool, true, false}
-use mathlib.Core.List.{List}
+use mathlib.Core.List.{List, [], _∷_}
 use lib.Dec.{eqb, leb, ltb}
 use Prim.Native.Nat.{ℕ, zero, suc, _+_}
 use Rattle.spans.specs.declared.Turned.{Turned}
@@ -16,7 +16,7 @@ use Rattle.tree.specs.declared.Answer.the-variants.{Done, Refused, Spent}
 use Rattle.tree.specs.declared.Refusal.the-variants.{KeyAbsent}
 use Rattle.tree.specs.Tree.{one}
 use Rattle.tree.specs.Spans.{within}
-use Rattle.updates.specs.Updating.{toward, wayTo, deleteUnder}
+use Rattle.updates.specs.Updating.{toward, wayTo, deleteUnder, deleteWords}
 
 abbrev pub turned : ℕ → ℕ → Turned
 turned slot beside = record { slot = slot; beside = beside }
@@ -112,3 +112,8 @@ deleteSpanAnswer p a b = (deleteSpanUnder p (headerOf p) a b) .result .answer
 
 unfoldable pub deleteSpanWords : List ℕ → (a b : ℕ) → List ℕ
 deleteSpanWords p a b = wordsAfter (deleteSpanUnder p (headerOf p) a b)
+
+-- What single deletes leave, each the entry of a pool, in the list's order.
+unfoldable pub deletedEach : List ℕ → List ℕ → List ℕ
+deletedEach [] p = p
+deletedEach (k ∷ ks) p = deletedEach ks (deleteWords p k)
