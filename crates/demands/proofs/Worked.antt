@@ -6,7 +6,7 @@ use mathlib.Core.Path.{_≡_, refl}
 use mathlib.Core.Bool.{true, false, not, _&&_, _||_}
 use mathlib.Core.List.{List, [], _∷_, _++_}
 use lib.Dec.{eqb, leb, ltb}
-use lib.ListN.{length, getD, set, drop, replicate}
+use lib.ListN.{length, getD, set, replicate}
 use Prim.Native.Nat.{ℕ}
 use Rattle.tree.specs.Codes.{codeOf, numberOf}
 use Rattle.tree.specs.Tree.{one, count, countIn, keys, slotOf, isLeaf, size, leaves, level}
