@@ -16,14 +16,14 @@ use native.Mathlib.Omega.{arith}
 use Prim.Native.Nat.{ℕ, zero, suc, _+_, _-_, _≤_, _<_}
 use Rattle.tree.specs.Codes.{codeOf}
 use Rattle.tree.specs.Tree.{countIn}
-use Rattle.tree.specs.State.{State, keysOf, isIn, Sound, Outcome, delete}
+use Rattle.tree.specs.State.{State, keysOf, isIn, keyEnd, Sound, Outcome, delete}
 use Rattle.tree.specs.Spans.{firstFrom, within, spanOf, keysFrom, deleteEach, deleteSpan}
 use Rattle.tree.proofs.Tests.{either-way, same-or-not, one-same, one-other}
 use Rattle.tree.proofs.Order.{All, Rising}
 use Rattle.tree.proofs.SoundStates.{sound-total}
 use Rattle.tree.proofs.Updated.{DeleteSays, absent, removed, delete-says, delete-codes, delete-sound, isIn-once}
 use Rattle.tree.proofs.Moves.{heldIn, nodes-held, delete-moves}
-use Rattle.tree.proofs.Spans.{keys-rise}
+use Rattle.tree.proofs.Spans.{keys-rise, key-small}
 
 -- What is within a span
 
@@ -286,6 +286,15 @@ span-present a b S g = all-of (λ k. isIn k S ≡ 1) (keysFrom a b S) there
     there : (y : ℕ) → 1 ≤ countIn y (keysFrom a b S) → isIn y S ≡ 1
     there y h = within-or-not a b y
         (λ l u. omega (arith, span-inside y a b (keysOf (S .top)) l u, isIn-once y S g))
+        (λ e. absurd (omega (arith, span-outside y a b (keysOf (S .top)) e)))
+
+-- "Keys are 32-bit numbers."
+pub span-small : (a b : ℕ) (S : State) → Sound S → All (λ k. k < keyEnd) (keysFrom a b S)
+span-small a b S g = all-of (λ k. k < keyEnd) (keysFrom a b S) small
+  where
+    small : (y : ℕ) → 1 ≤ countIn y (keysFrom a b S) → y < keyEnd
+    small y h = within-or-not a b y
+        (λ l u. key-small y S g (omega (arith, span-inside y a b (keysOf (S .top)) l u)))
         (λ e. absurd (omega (arith, span-outside y a b (keysOf (S .top)) e)))
 
 -- A span
