@@ -56,11 +56,13 @@ use Rattle.demands.proofs.Restarting.{restart-keys}
 
 -- no insert, no delete and no delete of a span
 abbrev Other : Operation → Type 0
-Other o = (operationNumber o ≢ operationNumber Insert) × (operationNumber o ≢ operationNumber Delete) × (operationNumber o ≢ operationNumber DeleteSpan)
+Other o =
+    (operationNumber o ≢ operationNumber Insert) × (operationNumber o ≢ operationNumber Delete) × (operationNumber o ≢ operationNumber DeleteSpan)
 
 -- One command: what is in the set after it is what its entry tells.
 module _ (x : ℕ) (c : Command) (S : State) (sound : Sound S) where
-  no-span : {o : Operation} → c .operation ≡ o → operationNumber o ≢ operationNumber DeleteSpan → operationNumber (c .operation) ≢ operationNumber DeleteSpan
+  no-span : {o : Operation} → c .operation ≡ o → operationNumber o ≢ operationNumber DeleteSpan
+      → operationNumber (c .operation) ≢ operationNumber DeleteSpan
   no-span e d z = d (sym (ap operationNumber e) ∙ z)
 
   insert-told : {o : Outcome} → c .operation ≡ Insert → InsertSays (c .first) S o → isIn x (o .after) ≡ tells x (entry c (o .answer)) (isIn x S)

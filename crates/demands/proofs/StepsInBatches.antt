@@ -1,8 +1,8 @@
 -- Demand 3 through batch. Over any number of calls with no update among them, that is no accepted insert or delete command, no delete of a span by
 -- which a key went, no yes of may send and no clearing by which a mark went, the accepted steps, that is the step commands answered with code 0 and
 -- the steps that settle commands report, are at most the report's seventh number of the first pool (`steps-in-batches`, `steps-at-most`).
--- Why: an accepted step lowers that number, a settle lowers it by its steps or more, and a search, a command that asks for the next key or a count, a
--- refused command or call, a delete of a span or a clearing that finds nothing leaves the pool as it was. Of keys nothing is said here. Assumes nothing.
+-- Why: an accepted step lowers that number, a settle lowers it by its steps or more, and a search, a next key, a count, a refused command or call, a
+-- delete of a span or a clearing that finds nothing leaves the pool as it was. Of keys nothing is said here. Assumes nothing.
 use mathlib.Core.Path.{_≡_, refl, ap}
 use mathlib.Core.Logic.{_≢_}
 use mathlib.Core.Bool.{Bool, true, false}

@@ -258,7 +258,10 @@ module _ (a b : ℕ) (S : State) (sound : Sound S) where
     where
       none-there : (m : ℕ) → Cause a b S AtOrAbove m → ⊥
       none-there m (none-above z) = omega (arith, z k l)
-  next-tabled (none-at-or-above f) = record { code-is = first-cause (none-above f) (λ m h c. omega (arith, from-lowest c)); number-is = refused-none {n = 6} (omega arith) (omega arith) }
+  next-tabled (none-at-or-above f) = record {
+    code-is = first-cause (none-above f) (λ m h c. omega (arith, from-lowest c));
+    number-is = refused-none {n = 6} (omega arith) (omega arith);
+  }
 
   count-tabled : Tabled a b S Count (countSpan a b S)
   unfolding countSpan
