@@ -2,13 +2,12 @@
 -- does the entry of a pool (`count-entry`).
 -- Why: the pool's C is at least the number of nodes, so the walk may visit all of them; and it counts the tree's keys of the span (`tally-holds`).
 -- Assumes nothing.
-use mathlib.Core.Path.{_≡_, refl, ap}
+use mathlib.Core.Path.{_≡_, refl}
 use mathlib.Core.List.{List}
 use lib.ListN.{length}
 use borrow.Author.Tests.{eq-eqb, ne-eqb}
 use native.Mathlib.Omega.{arith}
 use Prim.Native.Nat.{ℕ, _-_, _≤_}
-use Rattle.tree.specs.declared.Answer.the-variants.{Done}
 use Rattle.tree.specs.Tree.{Tree, size, keys}
 use Rattle.tree.specs.State.{State, Top, empty, full, keysOf, keyEnd, Sound}
 use Rattle.tree.specs.Spans.{spanOf, countSpan}
@@ -32,7 +31,8 @@ module _ {h : Header} {p : List ℕ} {S : State} {t : Tree} (sound : Sound S) (s
 
   pub tally-shows : (a b : ℕ) → tallyFrom (lastSlot p) p a b (h .root) (lastSlot p) ≡ tally (length (spanOf a b (keys t))) (lastSlot p - walked a b t)
   tally-shows a b =
-      rw (root-full shows e) (tally-holds (lastSlot p) a b (lastSlot p) 0 keyEnd (shows-tree shows e) (tree-good S t sound e .ordered) size-last size-last)
+      let ordered = tree-good S t sound e .ordered in
+      rw (root-full shows e) (tally-holds (lastSlot p) a b (lastSlot p) 0 keyEnd (shows-tree shows e) ordered size-last size-last)
 
 pub count-shows : {h : Header} {p : List ℕ} {S : State} (a b : ℕ) → Sound S → Shows h p S → countUnder p (h .root) a b ≡ (countSpan a b S) .answer
 unfolding countUnder countSpan keysOf spanOf

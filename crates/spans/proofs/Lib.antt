@@ -5,4 +5,5 @@ pub mod Ways
 pub mod NextShows
 pub mod CountShows
 pub mod SpanShows
+pub mod Visits
 pub mod Decides

@@ -68,24 +68,27 @@ module _ {h : Header} {p : List ℕ} {S : State} (sound : Sound S) (shows : Show
           (span-first x b k (keysOf (S .top)) (keys-rise S sound) e j ∙ ap (λ (ks : List ℕ). k ∷ ks) (sym (span-after x k b S sound e))))
           (λ j. ended (found i (some k) e ∙ rw (lt-leb k b j, notAbove)) (span-past x b k (keysOf (S .top)) (keys-rise S sound) e j))
 
+-- what is done from x on, at most n keys, is what is left to do
+abbrev Left : (n x b gone : ℕ) → List ℕ → Header → State → Type 0
+Left n x b gone p h S = Does (deleteFrom n x b gone p h) (rest gone x b S)
+
 module _ (x b gone : ℕ) {h : Header} {p : List ℕ} {S : State} (shows : Shows h p S) where
-  ends-shown : (n : ℕ) → nextTo p (h .root) x b ≡ Refused KeyAbsent → keysFrom x b S ≡ [] → Does (deleteFrom n x b gone p h) (rest gone x b S)
+  ends-shown : (n : ℕ) → nextTo p (h .root) x b ≡ Refused KeyAbsent → keysFrom x b S ≡ [] → Left n x b gone p h S
   ends-shown n e z = rw (delete-none n x b gone p h e refused, rest-none gone x b S z) (record { answers = refl; shows = shows })
 
-  last-turn : length (keysFrom x b S) ≤ 0 → NextIn x b p h S → Does (deleteFrom 0 x b gone p h) (rest gone x b S)
+  last-turn : length (keysFrom x b S) ≤ 0 → NextIn x b p h S → Left 0 x b gone p h S
   last-turn few (ended e z) = ends-shown 0 e z
   last-turn few (next k e z) = absurd (omega (arith, ap length z))
 
   a-turn : (n : ℕ) → NextIn x b p h S
       → ((k : ℕ) → keysFrom x b S ≡ k ∷ keysFrom (suc k) b ((delete k S) .after)
-      → let w = deleteUnder p h k in Does (deleteFrom n (suc k) b (suc gone) (w .words) (w .result .header)) (rest (suc gone) (suc k) b ((delete k S) .after)))
-      → Does (deleteFrom (suc n) x b gone p h) (rest gone x b S)
+      → let w = deleteUnder p h k in Left n (suc k) b (suc gone) (w .words) (w .result .header) ((delete k S) .after))
+      → Left (suc n) x b gone p h S
   unfolding deleteFrom
   a-turn n (ended e z) more = ends-shown (suc n) e z
   a-turn n (next k e z) more = rw (e, deleteFrom, rest-next gone x b k S z) (more k z)
 
-from-shows : (n x b gone : ℕ) {h : Header} {p : List ℕ} {S : State} → Sound S → Shows h p S → length (keysFrom x b S) ≤ n
-    → Does (deleteFrom n x b gone p h) (rest gone x b S)
+from-shows : (n x b gone : ℕ) {h : Header} {p : List ℕ} {S : State} → Sound S → Shows h p S → length (keysFrom x b S) ≤ n → Left n x b gone p h S
 from-shows zero x b gone sound shows few = last-turn x b gone shows few (next-in sound shows x b)
 from-shows (suc n) x b gone {S = S} sound shows few = a-turn x b gone shows n (next-in sound shows x b)
     (λ k z. from-shows n (suc k) b (suc gone) (delete-sound k S sound) (delete-shows k sound shows .shows) (omega (arith, ap length z)))

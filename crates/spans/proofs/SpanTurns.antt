@@ -1,6 +1,6 @@
 -- Deleting a span on any words, key by key: where it ends, and that with a next key it goes on from the one after that, with one key fewer to go.
 -- Assumes nothing.
-use mathlib.Core.Path.{_≡_, refl, sym, _∙_}
+use mathlib.Core.Path.{_≡_, refl}
 use mathlib.Core.Logic.{⊎-elim}
 use mathlib.Core.List.{List, [], _∷_}
 use types.Run.{OneOf}

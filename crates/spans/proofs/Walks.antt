@@ -1,5 +1,5 @@
--- How a count walks over words that hold a tree in order, with as many slots to visit, and to go down, as the tree has: it counts the tree's keys of the
--- span, and visits as many slots as the same walk over the tree has nodes (`tally-holds`, `walked`).
+-- How a count walks over words that hold a tree in order, with as many slots to visit, and to go down, as the tree has: it counts the tree's keys of
+-- the span, and visits as many slots as the same walk over the tree has nodes (`tally-holds`, `walked`).
 -- Why: each slot on the walk holds a node, whose left and right are its children's slots; and a side that is passed over has no key of the span.
 -- Assumes nothing.
 use mathlib.Core.Path.{_≡_, refl, ap, _∙_}

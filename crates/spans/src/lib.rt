@@ -116,7 +116,8 @@ fn one_within(a: u32, b: u32, key: u32) -> u32
 }
 
 // The keys from a to b under slot s, at most `deep` slots down; at most `most` slots are visited. All keys on the left of a router are at most the
-// router and all on the right are above it, so a side without a key of the span is not entered.
+// router and all on the right are above it, so a side without a key of the span is not entered (`any-visits` and `count-visits` in
+// proofs/Visits.antt).
 fn tally_from(pool: &[u32], a: u32, b: u32, s: u32, deep: u32, most: u32) -> Tally
     ensures { λ r. ⌜ r ≡ tallyFrom deep (now (pool .entry)) a b s most ⌝ }
 {

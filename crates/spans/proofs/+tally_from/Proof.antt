@@ -1,5 +1,5 @@
--- `tally_from` meets its contract: each of its returns is the definition's, by a law of Tallies.antt. What the two sides count is no more than the slots
--- they visit (`tally-fits`), so their sum does not wrap. The measure is the allowance of depth, `deep`, which both calls lower by one.
+-- `tally_from` meets its contract: each of its returns is the definition's, by a law of Tallies.antt. What the two sides count is no more than the
+-- slots they visit (`tally-fits`), so their sum does not wrap. The measure is the allowance of depth, `deep`, which both calls lower by one.
 -- Assumes nothing.
 use mathlib.Core.Path.{_≡_, sym, _∙_}
 use mathlib.Core.Logic.{_≢_, ⊎-elim}
@@ -34,7 +34,8 @@ abbrev tally-from-below : ℕ → In 1 tally-from-kinds.ps
 tally-from-below t = and 1 tally-from-kinds.ps (falls 1 tally-from-kinds.ps _<_ μ-tally-from t) tally-from.Pre
 
 abbrev tally-from-claims : ℕ → tally-from-lts.Claims
-tally-from-claims t = (get-slot-reads.Asked, get-slot-reads.Learnt, one-within-reads.Asked, one-within-reads.Learnt, tally-from-below t, tally-from.Post)
+tally-from-claims t =
+    (get-slot-reads.Asked, get-slot-reads.Learnt, one-within-reads.Asked, one-within-reads.Learnt, tally-from-below t, tally-from.Post)
 
 tally-from-returns : (t : ℕ) → tally-from-lts.Need-returns (tally-from-claims t) (tally-from-at t) tally-from.Post
 tally-from-returns t c = sym (tally-deep _ _ _ _ _ _ (c .if1 .taken))
@@ -50,9 +51,10 @@ tally-from-one-within-requires t c = search needs
 
 tally-from-returns-3 : (t : ℕ) → tally-from-lts.Need-returns-3 (tally-from-claims t) (tally-from-at t) tally-from.Post
 tally-from-returns-3 t c =
-    let read = c .before .before .before .get-slot .ensures in
-    let bare : (c .before .before .before .get-slot .result) .left ≡ 0 = omega (arith, c .before .if3 .taken) in
-    rw (c .one-within .ensures, read) (sym (tally-leaf _ _ _ _ _ _ (c .before .before .before .before .before .if1 .left) (c .before .before .before .before .if2 .left) (rw read at bare)))
+    let got = c .before .before .before in
+    let bare : (got .get-slot .result) .left ≡ 0 = omega (arith, c .before .if3 .taken) in
+    rw (c .one-within .ensures, got .get-slot .ensures)
+    (sym (tally-leaf _ _ _ _ _ _ (got .before .before .if1 .left) (got .before .if2 .left) (rw (got .get-slot .ensures) at bare)))
 
 tally-from-tally-from-requires : (t : ℕ) → tally-from-lts.Need-tally-from-requires (tally-from-claims t) (tally-from-at t) tally-from.Post
 tally-from-tally-from-requires t c κs = search needs
@@ -112,8 +114,12 @@ tally-from-add-t19 t c =
 tally-from-returns-4 : (t : ℕ) → tally-from-lts.Need-returns-4 (tally-from-claims t) (tally-from-at t) tally-from.Post
 unfolding besides
 tally-from-returns-4 t c =
-    let inner : (here c) .left ≢ 0 = omega (arith, rw (read c) at (c .before .before .before .before .before .before .if3 .left)) in
-    sym (tally-inner _ _ _ _ _ _ (c .before .before .before .before .before .before .before .before .before .before .if1 .left) (c .before .before .before .before .before .before .before .before .before .if2 .left) inner ∙ rw (sym (left-is c), sym (right-is c), besides))
+    let tested = c .before .before .before .before .before .before in
+    let inner : (here c) .left ≢ 0 = omega (arith, rw (read c) at (tested .if3 .left)) in
+    sym (
+    tally-inner _ _ _ _ _ _ (tested .before .before .before .before .if1 .left) (tested .before .before .before .if2 .left) inner
+    ∙ rw (sym (left-is c), sym (right-is c), besides)
+    )
 
 pub +tally-from-spec : {M : Type 1} → statement M
 +tally-from-spec = close μ-tally-from λ t. tally-from-lts.spec (tally-from-claims t)

@@ -19,7 +19,14 @@ same-length c = search needs
 
 returns : tie.Need-returns
 unfolding deleteSpanAnswer deleteSpanWords
-returns c = rw (c .before .before .put-header .ensures, c .before .before .before .before .before .before .delete-span-under .ensures .0, c .before .before .before .before .before .before .delete-span-under .ensures .1, c .before .before .before .before .before .before .before .before .get-header .ensures) (refl, refl)
+returns c =
+    rw (
+      c .before .before .put-header .ensures,
+      c .before .before .before .before .before .before .delete-span-under .ensures .0,
+      c .before .before .before .before .before .before .delete-span-under .ensures .1,
+      c .before .before .before .before .before .before .before .before .get-header .ensures,
+    )
+    (refl, refl)
 
 pub delete-span-spec : {M : Type 1} → statement M
 delete-span-spec = tie.close (tie.spec get-header-requires delete-span-under-requires put-header-requires same-length returns)

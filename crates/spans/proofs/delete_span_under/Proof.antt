@@ -37,7 +37,8 @@ same-length c = c .before .before .before .before .loop .inv .0
 
 returns : tie.Need-returns Inv-loop μ-loop
 returns c =
-    let e = c .before .before .before .before .loop .inv .2 ∙ delete-none _ _ _ _ _ _ (sym (c .before .next-to .ensures)) (no-key _ (c .match .keys2)) in
+    let inv = c .before .before .before .before .loop .inv in
+    let e = inv .2 ∙ delete-none _ _ _ _ _ _ (sym (c .before .next-to .ensures)) (no-key _ (c .match .keys2)) in
     (ap (λ (w : Written). w .result) (sym e), ap (λ (w : Written). w .words) (sym e))
 
 delete-under-requires : tie.Need-delete-under-requires Inv-loop μ-loop
@@ -50,7 +51,9 @@ add-next : tie.Need-add-next Inv-loop μ-loop
 add-next c = search needs
 
 add-gone : tie.Need-add-gone Inv-loop μ-loop
-add-gone c = record { fits = omega (arith, c .before .before .before .before .before .before .before .before .before .before .before .loop .inv .1, c .before .before .before .before .before .before .before .before .before .before .loop-test .taken, c .before .before .before .before .before .before .before .before .before .before .before .before .last-slot .ok) }
+add-gone c =
+    let turn = c .before .before .before .before .before .before .before .before .before .before in
+    record { fits = omega (arith, turn .before .loop .inv .1, turn .loop-test .taken, turn .before .before .last-slot .ok) }
 
 sub-left : tie.Need-sub-left Inv-loop μ-loop
 sub-left c = search needs
@@ -60,12 +63,15 @@ loop-less c = search needs
 
 loop-again : tie.Need-loop-again Inv-loop μ-loop
 loop-again c =
-    let deleted = c .before .before .before .delete-under in
-    let found = c .before .before .before .before .before .before in
-    let loop = c .before .before .before .before .before .before .before .before .before .before .before .loop in (
-      deleted .kept .0 ∙ loop .inv .0,
-      omega (arith, loop .inv .1, c .before .before .before .before .before .before .before .before .before .before .loop-test .taken),
-      loop .inv .2 ∙ (delete-next _ _ _ _ _ _ _ (c .before .before .before .before .before .before .before .before .before .before .loop-test .taken) (sym (found .before .before .next-to .ensures) ∙ found .key .given .1) ∙ rw (deleted .ensures .0, deleted .ensures .1)),
+    let deleted = c .before .before .before in
+    let found = deleted .before .before .before in
+    let turn = found .before .before .before .before in
+    let inv = turn .before .loop .inv in
+    let next = sym (found .before .before .next-to .ensures) ∙ found .key .given .1 in (
+      deleted .delete-under .kept .0 ∙ inv .0,
+      omega (arith, inv .1, turn .loop-test .taken),
+      inv .2
+          ∙ (delete-next _ _ _ _ _ _ _ (turn .loop-test .taken) next ∙ rw (deleted .delete-under .ensures .0, deleted .delete-under .ensures .1)),
     )
 
 same-length-2 : tie.Need-same-length-2 Inv-loop μ-loop

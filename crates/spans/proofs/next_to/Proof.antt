@@ -27,11 +27,17 @@ returns-2 c = rw (le-leb _ _ (c .before .before .if1 .left), nextTo, sym (c .bef
 
 returns-3 : tie.Need-returns-3
 unfolding nextTo notAbove
-returns-3 c = rw (le-leb _ _ (c .before .before .before .before .before .if1 .left), nextTo, sym (c .before .before .before .before .at-or-above .ensures), c .before .before .key .given .1, lt-leb _ _ (c .if2 .taken), notAbove)
+returns-3 c =
+    let found = c .before .before in
+    let asked = found .before .before in
+    rw (le-leb _ _ (asked .before .if1 .left), nextTo, sym (asked .at-or-above .ensures), found .key .given .1, lt-leb _ _ (c .if2 .taken), notAbove)
 
 returns-4 : tie.Need-returns-4
 unfolding nextTo notAbove
-returns-4 c = rw (le-leb _ _ (c .before .before .before .before .before .if1 .left), nextTo, sym (c .before .before .before .before .at-or-above .ensures), c .before .before .key .given .1, le-leb _ _ (c .if2 .left), notAbove)
+returns-4 c =
+    let found = c .before .before in
+    let asked = found .before .before in
+    rw (le-leb _ _ (asked .before .if1 .left), nextTo, sym (asked .at-or-above .ensures), found .key .given .1, le-leb _ _ (c .if2 .left), notAbove)
 
 pub next-to-spec : {M : Type 1} → statement M
 next-to-spec =
