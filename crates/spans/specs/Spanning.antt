@@ -56,7 +56,8 @@ atOrAbove p root x = elim (eqb root 0) [ true ↦ Refused KeyAbsent | false ↦ 
 unfoldable pub nextAnswer : List ℕ → ℕ → Answer
 nextAnswer p x = atOrAbove p ((headerOf p) .root) x
 
--- RULES 18.4: "the number of keys from a to b". What a walk finds: so many keys, and how many slots it may still visit.
+-- RULES 18.4: "the number of keys from a to b", both ends among them (RULES 18.3). What a walk finds: so many keys, and how many slots it may still
+-- visit.
 abbrev pub tally : ℕ → ℕ → Tally
 tally keys left = record { keys = keys; left = left }
 
