@@ -45,7 +45,7 @@ turnsTo p root x = turns (slotsIn p) p x root 0
 unfoldable pub nextBeside : List ℕ → ℕ → ℕ → Answer
 nextBeside p x s = elim (eqb s 0) [ true ↦ Refused KeyAbsent | false ↦ Done ((slotAt p ((wayTo p s x) .leaf)) .key) ]
 
--- The key where the search for x ends, if it is at or above x, else that one.
+-- RULES 18.2: "the smallest key at or above a given one". The key where the search for x ends, if it is at or above x, else that one.
 unfoldable pub nextAt : List ℕ → ℕ → Turned → Answer
 nextAt p x t = elim (leb x ((slotAt p (t .slot)) .key)) [ true ↦ Done ((slotAt p (t .slot)) .key) | false ↦ nextBeside p x (t .beside) ]
 
