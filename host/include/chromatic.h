@@ -25,8 +25,8 @@ extern "C" {
 /* The number of this interface; docs/INTERFACE.md says what each has. The function returns it. With GCC and Clang every file that
  * includes this header refers to the function, so that a program does not link with an archive of another interface; with
  * another compiler, call it once. */
-#define CHROMATIC_INTERFACE 6
-uint32_t chromatic_interface_6(void);
+#define CHROMATIC_INTERFACE 7
+uint32_t chromatic_interface_7(void);
 #ifdef __GNUC__
 __attribute__((used))
 #ifdef __has_attribute
@@ -34,7 +34,7 @@ __attribute__((used))
 __attribute__((retain)) /* from --gc-sections */
 #endif
 #endif
-static uint32_t (*const chromatic_interface_needed)(void) = chromatic_interface_6;
+static uint32_t (*const chromatic_interface_needed)(void) = chromatic_interface_7;
 #endif
 
 #ifdef __GNUC__

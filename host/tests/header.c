@@ -277,7 +277,7 @@ int main(void) {
     check(CHROMATIC_CODE(refused) == CHROMATIC_BAD_COMMAND && CHROMATIC_NUMBER(refused) == 13, "bad command");
     refused = chromatic_batch(pool, words, batch, sizeof batch, answers, room - 1);
     check(refused == refused_with(CHROMATIC_FEW_ANSWERS), "few answers");
-    check(chromatic_interface_6() == CHROMATIC_INTERFACE, "the interface's number");
+    check(chromatic_interface_7() == CHROMATIC_INTERFACE, "the interface's number");
     check(chromatic_batch(pool, words, two_hundred, sizeof two_hundred, answers, room) == 0 && answers[0] == CHROMATIC_KEY_ABSENT, "200 in two bytes");
 
     check(chromatic_batch(pool, words, NOTHING, 0, NOTHING, 0) == 0, "an empty batch at NULL");
