@@ -1,5 +1,5 @@
-/* These calls write no pool word: searches, refused commands, a settle with nothing to do, a save, a clearing that finds no mark, and calls
- * refused whole, which write no answer word and no output byte either. The pool (and there the answers or the output) lie in a page that may only be read, and a write
+/* These calls write no pool word: searches, the next key, counts, refused commands, a settle with nothing to do, a delete of a span that has no
+ * key, a save, a clearing that finds no mark, and calls refused whole, which write no answer word and no output byte either. The pool (and there the answers or the output) lie in a page that may only be read, and a write
  * would end the test by a signal. Of the header an accepted step, or a settle, writes the fourth word, L, alone, and that only where L moves: the words
  * before it, or all four, lie in such a page. */
 #define _DEFAULT_SOURCE

@@ -9,19 +9,19 @@ impl Set {
     }
 
     /// Those "from a to b", the smallest first.
-    fn from_to(&self, a: u32, b: u32) -> Vec<u32> {
+    fn between(&self, a: u32, b: u32) -> Vec<u32> {
         self.in_order().into_iter().filter(|&key| a <= key && key <= b).collect()
     }
 
     /// "the number of keys from a to b"
     pub fn count(&self, a: u32, b: u32) -> Answer {
-        (0, self.from_to(a, b).len() as u32)
+        (0, self.between(a, b).len() as u32)
     }
 
     /// "delete all keys from a to b, smallest first, answering how many went"; "The tree after 8 is the one that single deletes in that order
     /// leave."
     pub fn delete_span(&mut self, a: u32, b: u32) -> Answer {
-        let keys = self.from_to(a, b);
+        let keys = self.between(a, b);
         keys.iter().for_each(|&key| assert_eq!(self.delete(key).0, 0));
         (0, keys.len() as u32)
     }
