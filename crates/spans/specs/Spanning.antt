@@ -1,8 +1,8 @@
 -- Document 02 (vii) on words (RULES 18; the smallest key at or above a given one serves RULES 17 too): what the code of this crate answers and
 -- leaves on any words, the root or the header given by value. That this is `nextFrom`, `countSpan` and `deleteSpan` where the words show a sound
 -- State is proved in proofs/.
-use mathlib.Core.Bool.{true, false}
-use mathlib.Core.List.{List}
+use mathlib.Core.Bool.{Bool, true, false}
+use mathlib.Core.List.{List, [], _∷_}
 use lib.Dec.{eqb, leb, ltb}
 use Prim.Native.Nat.{ℕ, zero, suc, _+_}
 use Rattle.spans.specs.declared.Turned.{Turned}
@@ -16,7 +16,7 @@ use Rattle.tree.specs.declared.Answer.the-variants.{Done, Refused, Spent}
 use Rattle.tree.specs.declared.Refusal.the-variants.{KeyAbsent}
 use Rattle.tree.specs.Tree.{one}
 use Rattle.tree.specs.Spans.{within}
-use Rattle.updates.specs.Updating.{toward, wayTo, deleteUnder}
+use Rattle.updates.specs.Updating.{toward, wayTo, deleteUnder, deleteWords}
 
 abbrev pub turned : ℕ → ℕ → Turned
 turned slot beside = record { slot = slot; beside = beside }
@@ -45,7 +45,7 @@ turnsTo p root x = turns (slotsIn p) p x root 0
 unfoldable pub nextBeside : List ℕ → ℕ → ℕ → Answer
 nextBeside p x s = elim (eqb s 0) [ true ↦ Refused KeyAbsent | false ↦ Done ((slotAt p ((wayTo p s x) .leaf)) .key) ]
 
--- The key where the search for x ends, if it is at or above x, else that one.
+-- RULES 18.2: "the smallest key at or above a given one". The key where the search for x ends, if it is at or above x, else that one.
 unfoldable pub nextAt : List ℕ → ℕ → Turned → Answer
 nextAt p x t = elim (leb x ((slotAt p (t .slot)) .key)) [ true ↦ Done ((slotAt p (t .slot)) .key) | false ↦ nextBeside p x (t .beside) ]
 
@@ -56,9 +56,17 @@ atOrAbove p root x = elim (eqb root 0) [ true ↦ Refused KeyAbsent | false ↦ 
 unfoldable pub nextAnswer : List ℕ → ℕ → Answer
 nextAnswer p x = atOrAbove p ((headerOf p) .root) x
 
--- RULES 18.4: "the number of keys from a to b". What a walk finds: so many keys, and how many slots it may still visit.
+-- RULES 18.4: "the number of keys from a to b", both ends among them (RULES 18.3). What a walk finds: so many keys, and how many slots it may still
+-- visit.
 abbrev pub tally : ℕ → ℕ → Tally
 tally keys left = record { keys = keys; left = left }
+
+-- A side that is entered, or not; and two sides, the second with what the first has left of the slots.
+unfoldable pub entering : Bool → (ℕ → Tally) → ℕ → Tally
+entering goes side most = elim goes [ true ↦ side most | false ↦ tally 0 most ]
+
+unfoldable pub besides : Tally → (ℕ → Tally) → Tally
+besides l side = let r = side (l .left) in tally (l .keys + r .keys) (r .left)
 
 -- Under slot s, at most n slots down, with `most` slots that may be visited: no key on the left of a router below a is counted, and none on the right
 -- of one that is b or above, so no walk goes there.
@@ -67,10 +75,7 @@ tallyFrom zero p a b s most = tally 0 most
 tallyFrom (suc n) p a b s zero = tally 0 0
 tallyFrom (suc n) p a b s (suc most) = let c = slotAt p s in elim (eqb (c .left) 0) [
   | true ↦ tally (one (within a b (c .key))) most
-  | false ↦
-      let l = elim (leb a (c .key)) [ true ↦ tallyFrom n p a b (c .left) most | false ↦ tally 0 most ] in
-      let r = elim (ltb (c .key) b) [ true ↦ tallyFrom n p a b (c .right) (l .left) | false ↦ tally 0 (l .left) ] in
-      tally (l .keys + r .keys) (r .left)
+  | false ↦ besides (entering (leb a (c .key)) (tallyFrom n p a b (c .left)) most) (entering (ltb (c .key) b) (tallyFrom n p a b (c .right)))
 ]
 
 -- the whole tree, none where the root is 0
@@ -108,3 +113,8 @@ deleteSpanAnswer p a b = (deleteSpanUnder p (headerOf p) a b) .result .answer
 
 unfoldable pub deleteSpanWords : List ℕ → (a b : ℕ) → List ℕ
 deleteSpanWords p a b = wordsAfter (deleteSpanUnder p (headerOf p) a b)
+
+-- What single deletes leave, each the entry of a pool, in the list's order.
+unfoldable pub deletedEach : List ℕ → List ℕ → List ℕ
+deletedEach [] p = p
+deletedEach (k ∷ ks) p = deletedEach ks (deleteWords p k)

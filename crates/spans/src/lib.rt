@@ -14,6 +14,8 @@ use tree::Refusal;
 use updates::delete_under;
 use updates::descend;
 ghost use mathlib.Core.Path.{_≡_};
+ghost use Rattle.tree.specs.Tree.{one};
+ghost use Rattle.tree.specs.Spans.{within};
 ghost use Rattle.spans.specs.Spanning.{turn, turnsTo, nextBeside, atOrAbove, nextAnswer, tallyFrom, countUnder, nextTo, deleteSpanUnder, countAnswer, deleteSpanAnswer, deleteSpanWords};
 
 // Where a search is, and the right child at its last turn to the left, 0 before the first.
@@ -100,13 +102,30 @@ struct Tally {
     left: u32,
 }
 
+// 1 for a key from a to b, else 0.
+fn one_within(a: u32, b: u32, key: u32) -> u32
+    ensures { λ r. ⌜ r ≡ one (within a b key) ⌝ }
+{
+    if key < a {
+        return 0;
+    }
+    if b < key {
+        return 0;
+    }
+    1
+}
+
 // The keys from a to b under slot s, at most `deep` slots down; at most `most` slots are visited. All keys on the left of a router are at most the
-// router and all on the right are above it, so a side without a key of the span is not entered.
-fn tally(pool: &[u32], a: u32, b: u32, s: u32, deep: u32, most: u32) -> Tally
+// router and all on the right are above it, so a side without a key of the span is not entered (`any-visits` and `count-visits` in
+// proofs/Visits.antt).
+fn tally_from(pool: &[u32], a: u32, b: u32, s: u32, deep: u32, most: u32) -> Tally
     ensures { λ r. ⌜ r ≡ tallyFrom deep (now (pool .entry)) a b s most ⌝ }
 {
     if deep < 1 {
-        return Tally { keys: 0, left: most };
+        return Tally {
+            keys: 0,
+            left: most,
+        };
     }
     if most < 1 {
         return Tally { keys: 0, left: 0 };
@@ -119,14 +138,20 @@ fn tally(pool: &[u32], a: u32, b: u32, s: u32, deep: u32, most: u32) -> Tally
         };
     }
     let l = if a <= c.key {
-        tally(pool, a, b, c.left, deep - 1, most - 1)
+        tally_from(pool, a, b, c.left, deep - 1, most - 1)
     } else {
-        Tally { keys: 0, left: most - 1 }
+        Tally {
+            keys: 0,
+            left: most - 1,
+        }
     };
     let r = if c.key < b {
-        tally(pool, a, b, c.right, deep - 1, l.left)
+        tally_from(pool, a, b, c.right, deep - 1, l.left)
     } else {
-        Tally { keys: 0, left: l.left }
+        Tally {
+            keys: 0,
+            left: l.left,
+        }
     };
     Tally {
         keys: l.keys + r.keys,
@@ -142,7 +167,7 @@ pub fn count_under(pool: &[u32], root: u32, a: u32, b: u32) -> Answer
         return Answer::Done(0);
     }
     let slots = last_slot(pool);
-    let found = tally(pool, a, b, root, slots, slots);
+    let found = tally_from(pool, a, b, root, slots, slots);
     Answer::Done(found.keys)
 }
 

@@ -1,0 +1,52 @@
+-- `next_to` meets its contract: each return is the case of `nextTo` and `notAbove` that the tests before it pick, at what the call ensures.
+-- Assumes nothing.
+use mathlib.Core.Path.{sym}
+use borrow.Author.Tests.{le-leb, lt-leb}
+use borrow.Author.Needs.{needs}
+use Rattle.spans.specs.Spanning.{notAbove, nextTo}
+use Rattle.spans.proofs.SpanTurns.{no-key, none-at}
+use Rattle.spans.proofs.next_to.Statement.{statement}
+use Rattle.spans.proofs.next_to.Tie as tie
+
+returns : tie.Need-returns
+unfolding nextTo
+returns c = rw (lt-leb _ _ (c .if1 .taken), nextTo)
+
+cast-at-or-above : tie.Need-cast-at-or-above
+cast-at-or-above c = search needs
+
+at-or-above-requires : tie.Need-at-or-above-requires
+at-or-above-requires c κs = search needs
+
+enum-known-key : tie.Need-enum-known-key
+enum-known-key c = search needs
+
+returns-2 : tie.Need-returns-2
+unfolding nextTo notAbove
+returns-2 c = rw (le-leb _ _ (c .before .before .if1 .left), nextTo, sym (c .before .at-or-above .ensures), none-at _ (no-key _ (c .match .keys2)))
+
+returns-3 : tie.Need-returns-3
+unfolding nextTo notAbove
+returns-3 c =
+    let found = c .before .before in
+    let asked = found .before .before in
+    rw (le-leb _ _ (asked .before .if1 .left), nextTo, sym (asked .at-or-above .ensures), found .key .given .1, lt-leb _ _ (c .if2 .taken), notAbove)
+
+returns-4 : tie.Need-returns-4
+unfolding nextTo notAbove
+returns-4 c =
+    let found = c .before .before in
+    let asked = found .before .before in
+    rw (le-leb _ _ (asked .before .if1 .left), nextTo, sym (asked .at-or-above .ensures), found .key .given .1, le-leb _ _ (c .if2 .left), notAbove)
+
+pub next-to-spec : {M : Type 1} → statement M
+next-to-spec =
+    tie.close
+    (tie.spec
+    returns
+    cast-at-or-above
+    at-or-above-requires
+    enum-known-key
+    returns-2
+    returns-3
+    returns-4)
