@@ -7,8 +7,10 @@ use format::Slot;
 use slots::get_header;
 use slots::get_slot;
 use slots::last_slot;
+use slots::one_less;
 use slots::put_header;
 use slots::slots_in;
+use std::num::wrapping_add_u32;
 use tree::Answer;
 use tree::Refusal;
 use updates::delete_under;
@@ -16,7 +18,7 @@ use updates::descend;
 ghost use mathlib.Core.Path.{_≡_};
 ghost use Rattle.tree.specs.Tree.{one};
 ghost use Rattle.tree.specs.Spans.{within};
-ghost use Rattle.spans.specs.Spanning.{turn, turnsTo, nextBeside, atOrAbove, nextAnswer, tallyFrom, countUnder, nextTo, deleteSpanUnder, countAnswer, deleteSpanAnswer, deleteSpanWords};
+ghost use Rattle.spans.specs.Spanning.{turn, turnsTo, nextBeside, atOrAbove, nextAnswer, visited, tallyFrom, countUnder, nextTo, deleteSpanUnder, countAnswer, deleteSpanAnswer, deleteSpanWords};
 
 // Where a search is, and the right child at its last turn to the left, 0 before the first.
 struct Turned {
@@ -115,47 +117,43 @@ fn one_within(a: u32, b: u32, key: u32) -> u32
     1
 }
 
-// The keys from a to b under slot s, at most `deep` slots down; at most `most` slots are visited. All keys on the left of a router are at most the
-// router and all on the right are above it, so a side without a key of the span is not entered (`any-visits` and `count-visits` in
-// proofs/Visits.antt).
-fn tally_from(pool: &[u32], a: u32, b: u32, s: u32, deep: u32, most: u32) -> Tally
-    ensures { λ r. ⌜ r ≡ tallyFrom deep (now (pool .entry)) a b s most ⌝ }
+// A slot was visited: so many keys more, one slot fewer to go.
+fn visited(t: Tally, keys: u32) -> Tally
+    ensures { λ r. ⌜ r ≡ visited t keys ⌝ }
+{
+    Tally {
+        keys: wrapping_add_u32(t.keys, keys),
+        left: one_less(t.left),
+    }
+}
+
+// The keys from a to b under slot s, at most `deep` slots down, with what was found before; at most t.left slots are visited. All keys on the left
+// of a router are at most the router and all on the right are above it, so a side without a key of the span is not entered (`any-visits` and
+// `count-visits` in proofs/Visits.antt).
+fn tally_from(pool: &[u32], a: u32, b: u32, s: u32, deep: u32, t: Tally) -> Tally
+    ensures { λ r. ⌜ r ≡ tallyFrom deep (now (pool .entry)) a b s t ⌝ }
 {
     if deep < 1 {
-        return Tally {
-            keys: 0,
-            left: most,
-        };
+        return t;
     }
-    if most < 1 {
-        return Tally { keys: 0, left: 0 };
+    if t.left < 1 {
+        return t;
     }
     let c = get_slot(pool, s);
     if c.left == 0 {
-        return Tally {
-            keys: one_within(a, b, c.key),
-            left: most - 1,
-        };
+        return visited(t, one_within(a, b, c.key));
     }
+    // a router is no key
+    let here = visited(t, 0);
     let l = if a <= c.key {
-        tally_from(pool, a, b, c.left, deep - 1, most - 1)
+        tally_from(pool, a, b, c.left, deep - 1, here)
     } else {
-        Tally {
-            keys: 0,
-            left: most - 1,
-        }
+        here
     };
-    let r = if c.key < b {
-        tally_from(pool, a, b, c.right, deep - 1, l.left)
+    if c.key < b {
+        tally_from(pool, a, b, c.right, deep - 1, l)
     } else {
-        Tally {
-            keys: 0,
-            left: l.left,
-        }
-    };
-    Tally {
-        keys: l.keys + r.keys,
-        left: r.left,
+        l
     }
 }
 
@@ -167,7 +165,11 @@ pub fn count_under(pool: &[u32], root: u32, a: u32, b: u32) -> Answer
         return Answer::Done(0);
     }
     let slots = last_slot(pool);
-    let found = tally_from(pool, a, b, root, slots, slots);
+    let none = Tally {
+        keys: 0,
+        left: slots,
+    };
+    let found = tally_from(pool, a, b, root, slots, none);
     Answer::Done(found.keys)
 }
 
