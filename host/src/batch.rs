@@ -229,6 +229,27 @@ impl Batch {
 
     /// Pushes "how many keys has this span?" Both ends belong to it; an empty range counts 0.
     ///
+    /// ```
+    /// use chromatic::{Answer, Batch, Inserted, Pool};
+    ///
+    /// let mut pool = Pool::prepare(vec![0; Pool::words_for(127)])?;
+    /// for key in [10, 11, 20] {
+    ///     assert!(matches!(pool.insert(key)?, Inserted::NewlyMarked(_)));
+    /// }
+    /// let mut batch = Batch::new();
+    /// batch.push_count(10..=19)?;
+    /// batch.push_count(20..=29)?;
+    /// let counts: Vec<u32> = pool
+    ///     .run(&batch)?
+    ///     .map(|answer| match answer {
+    ///         Answer::Count { answer, .. } => answer,
+    ///         other => panic!("not asked: {other:?}"),
+    ///     })
+    ///     .collect();
+    /// assert_eq!(counts, [2, 1]);
+    /// # Ok::<(), Box<dyn std::error::Error>>(())
+    /// ```
+    ///
     /// # Errors
     /// As [`Batch::push`].
     pub fn push_count(&mut self, span: RangeInclusive<u32>) -> Result<(), Full> {

@@ -448,7 +448,7 @@ impl<W: Words> Pool<W> {
     /// # Errors
     /// As [`Pool::audit`].
     ///
-    /// Proved: `next-shows`, `history`.
+    /// Proved: `batch-at-or-above`, `next-shows`.
     pub fn at_or_above(&mut self, key: u32) -> Result<Found, Refused> {
         let [code, number] = self.run_one(Command::AtOrAbove { key })?;
         Ok(Found::read(code, number))
@@ -476,7 +476,7 @@ impl<W: Words> Pool<W> {
     /// # Errors
     /// As [`Pool::audit`].
     ///
-    /// Proved: `count-shows`.
+    /// Proved: `batch-counts`, `count-shows`.
     pub fn count(&mut self, span: RangeInclusive<u32>) -> Result<u32, Refused> {
         let [code, number] = self.run_one(Command::count(span))?;
         Ok(how_many(code, number))
@@ -507,7 +507,7 @@ impl<W: Words> Pool<W> {
     /// # Errors
     /// As [`Pool::audit`]; then no word changes.
     ///
-    /// Proved: `span-shows`, `history`.
+    /// Proved: `batch-deletes-span`, `batch-deletes-singly`, `history`.
     pub fn delete_span(&mut self, span: RangeInclusive<u32>) -> Result<u32, Refused> {
         let [code, number] = self.run_one(Command::delete_span(span))?;
         Ok(how_many(code, number))
