@@ -57,7 +57,7 @@ delete-none (suc n) x b gone p h e refused = rw (e, deleteFrom)
 delete-none (suc n) x b gone p h e spent = rw (e, deleteFrom)
 
 pub delete-next : (n x b gone : ℕ) (p : List ℕ) (h : Header) (k : ℕ) → 0 < n → nextTo p (h .root) x b ≡ Done k
-    → deleteFrom n x b gone p h ≡ (let w = deleteUnder p h k in deleteFrom (n - 1) (k + 1) b (gone + 1) (w .words) (w .result .header))
+    → deleteFrom n x b gone p h ≡ (let w = deleteUnder p h k in deleteFrom (n - 1) (suc k) b (gone + 1) (w .words) (w .result .header))
 unfolding deleteFrom
 delete-next zero x b gone p h k l e = absurd (omega arith)
-delete-next (suc n) x b gone p h k l e = rw (e, deleteFrom, sub-one (suc n), add-one k, add-one gone)
+delete-next (suc n) x b gone p h k l e = rw (e, deleteFrom, sub-one (suc n), add-one gone)

@@ -31,7 +31,8 @@ unfolding atOrAbove nextAt
 returns-3 c =
     let got = c .before .before in
     let read = rw (got .before .turns .ensures) at (got .get-slot .ensures) in
-    rw (ne-eqb _ _ (got .before .before .if1 .left), atOrAbove, le-leb _ _ (rw read at (c .if2 .left)), nextAt) (ap (λ (d : Slot). Done (d .key)) read)
+    rw (ne-eqb _ _ (got .before .before .if1 .left), atOrAbove, le-leb _ _ (rw read at (c .if2 .left)), nextAt)
+    (ap (λ (d : Slot). Done (d .key)) read)
 
 pub at-or-above-spec : {M : Type 1} → statement M
 at-or-above-spec = tie.close (tie.spec returns turns-requires get-slot-requires next-beside-requires returns-2 returns-3)
