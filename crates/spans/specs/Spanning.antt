@@ -90,8 +90,11 @@ unfoldable pub countUnder : List ℕ → (root a b : ℕ) → Answer
 countUnder p root a b = elim (eqb root 0) [ true ↦ Done 0 | false ↦ Done ((tallyFrom (lastSlot p) p a b root (tally 0 (lastSlot p))) .keys) ]
 
 -- RULES 18.5: "delete all keys from a to b, smallest first". The next to go: the smallest at or above x, where that is not above b.
+unfoldable pub upTo : (b k : ℕ) → Bool
+upTo b k = leb k b
+
 unfoldable pub notAbove : ℕ → Answer → Answer
-notAbove b (Done k) = elim (leb k b) [ true ↦ Done k | false ↦ Refused KeyAbsent ]
+notAbove b (Done k) = elim (upTo b k) [ true ↦ Done k | false ↦ Refused KeyAbsent ]
 notAbove b (Refused f) = Refused KeyAbsent
 notAbove b (Spent n) = Refused KeyAbsent
 

@@ -16,6 +16,7 @@ use tree::Refusal;
 use updates::delete_under;
 use updates::descend;
 ghost use mathlib.Core.Path.{_≡_};
+ghost use Prim.Native.Nat.{suc};
 ghost use Rattle.tree.specs.Tree.{one};
 ghost use Rattle.tree.specs.Spans.{within};
 ghost use Rattle.spans.specs.Spanning.{turn, turnsTo, nextBeside, atOrAbove, nextAnswer, visited, tallyFrom, countUnder, nextTo, deleteSpanUnder, countAnswer, deleteSpanAnswer, deleteSpanWords};
@@ -196,6 +197,13 @@ fn next_to(pool: &[u32], root: u32, next: u64, b: u32) -> Answer
     Answer::Done(key)
 }
 
+// The number after a key, one more than the last 32-bit number after the last key.
+fn after(key: u32) -> u64
+    ensures { λ r. ⌜ r ≡ suc key ⌝ }
+{
+    key as u64 + 1
+}
+
 // 02 (vii): "delete all keys from a to b, smallest first, answering how many went." Each is found by one descent and deleted by another.
 pub fn delete_span_under(pool: &mut [u32], h: Header, a: u32, b: u32) -> Performed
     ensures result { λ r. ⌜ r ≡ (deleteSpanUnder (now (pool .entry)) h a b) .result ⌝ }
@@ -214,7 +222,7 @@ pub fn delete_span_under(pool: &mut [u32], h: Header, a: u32, b: u32) -> Perform
         };
         let one = delete_under(pool, header, key);
         header = one.header;
-        next = key as u64 + 1;
+        next = after(key);
         gone += 1;
         left -= 1;
     }

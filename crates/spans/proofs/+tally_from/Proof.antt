@@ -4,7 +4,7 @@ use mathlib.Core.Path.{_≡_, sym, ap, _∙_}
 use mathlib.Core.Logic.{_≢_, ⊎-elim}
 use mathlib.Core.List.{List}
 use lib.Dec.{leb, ltb}
-use Prim.Native.Nat.{ℕ, _-_, _<_}
+use Prim.Native.Nat.{ℕ, _-_, _≤_, _<_}
 use native.Mathlib.Omega.{arith}
 use borrow.Author.Tests.{le-leb, lt-leb, lt-ltb, le-ltb}
 use borrow.Author.Needs.{needs}
@@ -102,12 +102,19 @@ module _ {t : ℕ} (c : tally-from-lts.Joined4 (tally-from-claims t) (tally-from
   read : c .before .before .before .before .before .get-slot .result ≡ here
   read = c .before .before .before .before .before .get-slot .ensures
 
+  routed : c .before .before .visited2 .result ≡ atRouter found
+  unfolding atRouter
+  routed = c .before .before .visited2 .ensures
+
   left-is : c .if4 .l ≡ entering (leb a (here .key)) (tallyFrom (deep - 1) pool a b (here .left)) (atRouter found)
-  unfolding atRouter entering
+  unfolding entering
   left-is = ⊎-elim
-      (λ w. rw (le-leb _ _ (rw read at (w .0 .taken)), entering)
-      (w .2 ∙ (rw read at (w .1 .ensures) ∙ ap (tallyFrom (deep - 1) pool a b (here .left)) (c .before .before .visited2 .ensures))))
-      (λ w. rw (lt-leb _ _ (rw read at (w .0 .left)), entering) (w .1 ∙ c .before .before .visited2 .ensures))
+      (λ w.
+      let goes : a ≤ here .key = omega (arith, rw read at (w .0 .taken)) in
+      rw (le-leb _ _ goes, entering) (w .2 ∙ (rw read at (w .1 .ensures) ∙ ap (tallyFrom (deep - 1) pool a b (here .left)) routed)))
+      (λ w.
+      let passes : here .key < a = omega (arith, rw read at (w .0 .left)) in
+      rw (lt-leb _ _ passes, entering) (w .1 ∙ routed))
       (c .if4 .came)
 
   inner-is : tallyFrom deep pool a b s found ≡ entering (ltb (here .key) b) (tallyFrom (deep - 1) pool a b (here .right)) (c .if4 .l)
@@ -121,13 +128,15 @@ tally-from-returns-4 : (t : ℕ) → tally-from-lts.Need-returns-4 (tally-from-c
 unfolding entering
 tally-from-returns-4 t c =
     let left = c .before .before .before in
-    rw (inner-is left, lt-ltb _ _ (rw (read left) at (c .before .if5 .taken)), entering) (rw (read left) at (c .tally-from2 .ensures))
+    let goes : (here left) .key < b left = omega (arith, rw (read left) at (c .before .if5 .taken)) in
+    rw (inner-is left, lt-ltb _ _ goes, entering) (rw (read left) at (c .tally-from2 .ensures))
 
 tally-from-returns-5 : (t : ℕ) → tally-from-lts.Need-returns-5 (tally-from-claims t) (tally-from-at t) tally-from.Post
 unfolding entering
 tally-from-returns-5 t c =
     let left = c .before .before in
-    rw (inner-is left, le-ltb _ _ (rw (read left) at (c .if5 .left)), entering)
+    let passes : b left ≤ (here left) .key = omega (arith, rw (read left) at (c .if5 .left)) in
+    rw (inner-is left, le-ltb _ _ passes, entering)
 
 pub +tally-from-spec : {M : Type 1} → statement M
 +tally-from-spec = close μ-tally-from λ t. tally-from-lts.spec (tally-from-claims t)
