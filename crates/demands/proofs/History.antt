@@ -21,11 +21,11 @@ use Rattle.tree.specs.Codes.{codeOf, numberOf}
 use Rattle.tree.specs.Tree.{countIn}
 use Rattle.tree.specs.State.{State, isIn, Sound, Outcome, search, step}
 use Rattle.tree.specs.Settle.{settle}
-use Rattle.tree.specs.Spans.{nextFrom, countSpan, deleteSpan}
+use Rattle.tree.specs.Spans.{nextFrom, keysFrom, countSpan, deleteSpan}
 use Rattle.tree.proofs.Tests.{same-or-not, one-same, one-other}
 use Rattle.tree.proofs.Updated.{search-kept, search-codes as search-codes-state, InsertSays, present, no-room, added, insert-says, DeleteSays, absent, removed, delete-says}
 use Rattle.tree.proofs.StepState.{step-keeps-keys}
-use Rattle.tree.proofs.SpanStates.{span-members}
+use Rattle.tree.proofs.SpanStates.{span-members, span-none}
 use Rattle.encoding.specs.declared.Operation.{Operation}
 use Rattle.encoding.specs.declared.Operation.the-variants.{Search, Insert, Delete, Step, Settle, AtOrAbove, Count, DeleteSpan}
 use Rattle.encoding.specs.declared.Command.{Command}
@@ -48,7 +48,7 @@ use Rattle.set.proofs.Members.{member-shown}
 use Rattle.set.proofs.Passing.{passing-state}
 use Rattle.set.proofs.Promises.{passing-words, more-here, more-elsewhere, nodes-exact, empty-says, prepare-passing, prepare-says, search-codes}
 use Rattle.demands.specs.Calls.{Entry, of-ledger, entries, logOf, Calls, no-call, then-call, then-restart, then-send, then-clear, isMark, puts, takes, tells, toldFrom, told, InsertedSince, KeptOrInserted, SearchTells}
-use Rattle.demands.proofs.Told.{tells-kept, tells-put, tells-taken, other-operation, other-key, other-code, tells-insert, tells-delete, tells-span, is-mark, told-append, told-from-exactly, told-exactly}
+use Rattle.demands.proofs.Told.{tells-kept, tells-put, tells-taken, other-operation, other-key, other-code, tells-insert, tells-delete, tells-span, tells-empty-span, is-mark, told-append, told-from-exactly, told-exactly}
 use Rattle.demands.proofs.Runs.{entry, entriesOf}
 use Rattle.demands.proofs.Called.{Result, call-kept, call-did, call-result, call-ran, calls-passing}
 use Rattle.demands.proofs.Ends.{command-words}
@@ -81,7 +81,11 @@ module _ (x : ℕ) (c : Command) (S : State) (sound : Sound S) where
   span-told : c .operation ≡ DeleteSpan
       → isIn x ((deleteSpan (c .first) (c .second) S) .after) ≡ tells x (entry c ((deleteSpan (c .first) (c .second) S) .answer)) (isIn x S)
   unfolding deleteSpan
-  span-told op = span-members x (c .first) (c .second) S sound ∙ sym (tells-span x c 0 _ (isIn x S) op refl)
+  span-told op =
+      let number = length (keysFrom (c .first) (c .second) S) in
+      same-or-not number 0
+      (λ z. ap (isIn x) (span-none (c .first) (c .second) S z) ∙ sym (tells-empty-span x c 0 number (isIn x S) op refl z))
+      (λ d. span-members x (c .first) (c .second) S sound ∙ sym (tells-span x c 0 number (isIn x S) op refl d))
 
   perform-told : isIn x ((perform c S) .after) ≡ tells x (entry c ((perform c S) .answer)) (isIn x S)
   unfolding perform operation nextFrom countSpan

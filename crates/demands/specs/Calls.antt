@@ -76,9 +76,9 @@ puts x (of-command c code number) = isOf Insert c && eqb (c .first) x && eqb cod
 puts x (of-ledger (send-call n r l code a)) = eqb (markKey n r a) x && eqb code 0
 puts x (of-ledger (clear-call n code count)) = false
 
--- .. and one that takes it out: a delete of it, by 02 (vii) (RULES 18.6) a delete of a span with it, or a clearing of its notice.
+-- .. and one that takes it out: a delete of it, by 02 (vii) (RULES 18.6) a delete of a span with it by which keys went, or a clearing of its notice.
 unfoldable pub takes : ℕ → Entry → Bool
-takes x (of-command c code number) = (isOf Delete c && eqb (c .first) x || isOf DeleteSpan c && within (c .first) (c .second) x) && eqb code 0
+takes x (of-command c code number) = (isOf Delete c && eqb (c .first) x || isOf DeleteSpan c && within (c .first) (c .second) x && not (eqb number 0)) && eqb code 0
 takes x (of-ledger (send-call n r l code a)) = false
 takes x (of-ledger (clear-call n code count)) = isMark n x && eqb code 0
 

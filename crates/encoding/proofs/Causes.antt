@@ -272,7 +272,7 @@ module _ (a b : ℕ) (S : State) (sound : Sound S) where
 
   span-tabled : Tabled a b S DeleteSpan (deleteSpan a b S)
   unfolding deleteSpan
-  span-tabled = record { code-is = no-cause none-there; number-is = keys-gone (span-held a b S sound) }
+  span-tabled = record { code-is = no-cause none-there; number-is = keys-gone refl (span-held a b S sound) }
     where
       none-there : (m : ℕ) → Cause a b S DeleteSpan m → ⊥
       none-there m c = elim c [ ]
@@ -322,7 +322,7 @@ numbered-once g h (smallest {k} l i f) (smallest {k = j} m n o) = elim (decLt k 
   | no b ↦ elim (decLt j k) [ yes c ↦ absurd (omega (arith, f j m c)) | no c ↦ omega arith ]
 ]
 numbered-once g h (keys-counted e) (keys-counted f) = e ∙ sym f
-numbered-once g h (keys-gone e) (keys-gone f) = omega arith
+numbered-once g h (keys-gone e i) (keys-gone f j) = e ∙ sym f
 numbered-once g h (steps-spent e) (steps-spent f) = e ∙ sym f
 numbered-once g h (refused-none l k) (refused-none i j) = refl
 numbered-once g h (refused-none l k) (leaf-slot i j) = absurd (omega arith)
@@ -332,7 +332,7 @@ numbered-once g h (refused-none l k) (the-kind i) = absurd (omega arith)
 numbered-once g h (refused-none l k) (steps-done i) = absurd (omega arith)
 numbered-once g h (refused-none l k) (smallest i j f) = absurd (omega arith)
 numbered-once g h (refused-none l k) (keys-counted i) = absurd (omega arith)
-numbered-once g h (refused-none l k) (keys-gone i) = absurd (omega arith)
+numbered-once g h (refused-none l k) (keys-gone i j) = absurd (omega arith)
 numbered-once g h (refused-none l k) (steps-spent i) = absurd (omega arith)
 numbered-once g h (leaf-slot i j) (refused-none l k) = absurd (omega arith)
 numbered-once g h (new-slot i j) (refused-none l k) = absurd (omega arith)
@@ -341,5 +341,5 @@ numbered-once g h (the-kind i) (refused-none l k) = absurd (omega arith)
 numbered-once g h (steps-done i) (refused-none l k) = absurd (omega arith)
 numbered-once g h (smallest i j f) (refused-none l k) = absurd (omega arith)
 numbered-once g h (keys-counted i) (refused-none l k) = absurd (omega arith)
-numbered-once g h (keys-gone i) (refused-none l k) = absurd (omega arith)
+numbered-once g h (keys-gone i j) (refused-none l k) = absurd (omega arith)
 numbered-once g h (steps-spent i) (refused-none l k) = absurd (omega arith)

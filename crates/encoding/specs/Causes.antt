@@ -60,10 +60,10 @@ pub data Numbered (a b : ℕ) (S T : State) : Operation → ℕ → ℕ → Type
   the-kind : {n : ℕ} → n ≡ b → Numbered a b S T Step 0 n
   steps-done : {n : ℕ} → n ≡ stepsTaken a S → Numbered a b S T Settle 0 n
   -- 02 (vii) (RULES 18.2, 18.4, 18.5): a key of the set at or above a, and none of the set between; how many keys from a to b there are; and how many
-  -- the set has no more
+  -- there were, which the set has no more
   smallest : {k : ℕ} → a ≤ k → isIn k S ≡ 1 → ((y : ℕ) → a ≤ y → y < k → isIn y S ≡ 0) → Numbered a b S T AtOrAbove 0 k
   keys-counted : {n : ℕ} → n ≡ length (keysFrom a b S) → Numbered a b S T Count 0 n
-  keys-gone : {n : ℕ} → length (keysOf (S .top)) ≡ n + length (keysOf (T .top)) → Numbered a b S T DeleteSpan 0 n
+  keys-gone : {n : ℕ} → n ≡ length (keysFrom a b S) → length (keysOf (S .top)) ≡ n + length (keysOf (T .top)) → Numbered a b S T DeleteSpan 0 n
   -- 12: "steps taken"
   steps-spent : {n : ℕ} → n ≡ stepsTaken a S → Numbered a b S T Settle 12 n
   -- 5 to 11: 0

@@ -1,6 +1,6 @@
 -- How far a count walks (RULES 18.7). On any words at all it visits no more slots than it may (`any-visits`), so no more than the pool has
--- (`count-visits-any`). On words that show a sound State it visits only slots on the way of the search for a, on that of the search for b, and of nodes
--- whose keys all lie in the span (`count-visits`).
+-- (`count-visits-any`). On words that show a sound State it visits no more slots than there are on the way of the search for a, on that of the search
+-- for b, and of nodes whose keys all lie in the span (`count-visits`).
 -- Why: where a side is entered, it is on the way of a or all its keys are at or above a, and on the way of b or all its keys are at or below b
 -- (`walked-near`). Assumes nothing.
 use mathlib.Core.Path.{_≡_, refl, sym, _∙_}

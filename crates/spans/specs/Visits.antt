@@ -18,7 +18,7 @@ unfoldable pub allWithin : (a b : ℕ) → List ℕ → Bool
 allWithin a b [] = true
 allWithin a b (k ∷ ks) = within a b k && allWithin a b ks
 
--- "the slots on the ways of a and b and of the nodes whose keys all lie in the span": whether the root of t is on the way of a, and on that of b, is
+-- The slots on the ways of a and b and those of the nodes whose keys all lie in the span: whether the root of t is on the way of a, and on that of b, is
 -- given
 unfoldable pub isNear : (a b : ℕ) (onA onB : Bool) → Tree → ℕ
 isNear a b onA onB t = one (onA || onB || allWithin a b (keys t))

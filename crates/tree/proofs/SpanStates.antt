@@ -164,7 +164,7 @@ span-all a b c (k ∷ ks) h = within-or-not a b k
     (λ l u. rw (span-in a b k ks l u) (h .0, span-all a b c ks (h .1)))
     (λ e. rw (span-out a b k ks e) (span-all a b c ks (h .1)))
 
-span-rises : (a b : ℕ) (ks : List ℕ) → Rising ks → Rising (spanOf a b ks)
+pub span-rises : (a b : ℕ) (ks : List ℕ) → Rising ks → Rising (spanOf a b ks)
 unfolding spanOf Rising
 span-rises a b [] r = tt
 span-rises a b (k ∷ ks) r = within-or-not a b k
@@ -288,7 +288,7 @@ span-present a b S g = all-of (λ k. isIn k S ≡ 1) (keysFrom a b S) there
         (λ l u. omega (arith, span-inside y a b (keysOf (S .top)) l u, isIn-once y S g))
         (λ e. absurd (omega (arith, span-outside y a b (keysOf (S .top)) e)))
 
--- "Keys are 32-bit numbers."
+-- each is a 32-bit number
 pub span-small : (a b : ℕ) (S : State) → Sound S → All (λ k. k < keyEnd) (keysFrom a b S)
 span-small a b S g = all-of (λ k. k < keyEnd) (keysFrom a b S) small
   where

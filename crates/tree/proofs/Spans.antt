@@ -68,7 +68,7 @@ keys-rise S g = go (S .top) refl
     go empty e = tt
     go (full t) e = keys-rising 0 keyEnd t (tree-good S t g e .ordered)
 
--- "Keys are 32-bit numbers."
+-- a key is a 32-bit number
 pub key-small : (k : ℕ) (S : State) → Sound S → 1 ≤ isIn k S → k < keyEnd
 unfolding keysOf countIn
 key-small k S g = go (S .top) refl
