@@ -3,7 +3,7 @@
 -- with code 0" (`told-from-exactly`), where a clearing deletes the marks that crate ledger says (`is-mark`). Assumes nothing.
 use mathlib.Core.Path.{_≡_, refl, ap, sym, _∙_}
 use mathlib.Core.Logic.{_≢_, _↔_, inl, inr}
-use mathlib.Core.Bool.{Bool, true, false, and-false}
+use mathlib.Core.Bool.{Bool, true, false, and-true, and-false}
 use mathlib.Core.List.{List, [], _∷_, _++_}
 use borrow.Author.Tests.{eq-eqb, ne-eqb, eqb-false, leb-true, le-leb, not-true}
 use native.Mathlib.Omega.{arith}
@@ -57,14 +57,18 @@ module _ (x : ℕ) (c : Command) (code number before : ℕ) where
   tells-delete o k z = tells-taken x (of-command c code number) before (rw o) (rw (o, eq-eqb _ _ k, eq-eqb _ _ z))
 
   -- a delete of a span takes what is within it
+  span-takes : c .operation ≡ DeleteSpan → code ≡ 0 → takes x (of-command c code number) ≡ within (c .first) (c .second) x
+  unfolding takes isOf
+  span-takes o z = rw (o, eq-eqb _ _ z) (and-true (within (c .first) (c .second) x))
+
   pub tells-span : c .operation ≡ DeleteSpan → code ≡ 0
       → tells x (of-command c code number) before ≡ elim (within (c .first) (c .second) x) [ true ↦ 0 | false ↦ before ]
-  unfolding puts takes isOf
-  tells-span o z = go (within (c .first) (c .second) x) refl
+  unfolding puts isOf
+  tells-span o z = go (within (c .first) (c .second) x) (span-takes o z)
     where
-      go : (b : Bool) → within (c .first) (c .second) x ≡ b → tells x (of-command c code number) before ≡ elim b [ true ↦ 0 | false ↦ before ]
-      go true e = tells-taken x (of-command c code number) before (rw o) (rw (o, e, eq-eqb _ _ z))
-      go false e = tells-kept x (of-command c code number) before (rw o) (rw (o, e))
+      go : (b : Bool) → takes x (of-command c code number) ≡ b → tells x (of-command c code number) before ≡ elim b [ true ↦ 0 | false ↦ before ]
+      go true e = tells-taken x (of-command c code number) before (rw o) e
+      go false e = tells-kept x (of-command c code number) before (rw o) e
 
 -- The test for a notice's marks says what the send limit's page says.
 pub is-mark : (n x : ℕ) → (isMark n x ≡ true) ↔ IsMark n x

@@ -45,7 +45,7 @@ turnsTo p root x = turns (slotsIn p) p x root 0
 unfoldable pub nextBeside : List ℕ → ℕ → ℕ → Answer
 nextBeside p x s = elim (eqb s 0) [ true ↦ Refused KeyAbsent | false ↦ Done ((slotAt p ((wayTo p s x) .leaf)) .key) ]
 
--- The key where the search for x ends, if it is at or above x, else that one.
+-- RULES 18.2: "the smallest key at or above a given one". The key where the search for x ends, if it is at or above x, else that one.
 unfoldable pub nextAt : List ℕ → ℕ → Turned → Answer
 nextAt p x t = elim (leb x ((slotAt p (t .slot)) .key)) [ true ↦ Done ((slotAt p (t .slot)) .key) | false ↦ nextBeside p x (t .beside) ]
 
@@ -56,7 +56,8 @@ atOrAbove p root x = elim (eqb root 0) [ true ↦ Refused KeyAbsent | false ↦ 
 unfoldable pub nextAnswer : List ℕ → ℕ → Answer
 nextAnswer p x = atOrAbove p ((headerOf p) .root) x
 
--- RULES 18.4: "the number of keys from a to b". What a walk finds: so many keys, and how many slots it may still visit.
+-- RULES 18.4: "the number of keys from a to b", both ends among them (RULES 18.3). What a walk finds: so many keys, and how many slots it may still
+-- visit.
 abbrev pub tally : ℕ → ℕ → Tally
 tally keys left = record { keys = keys; left = left }
 

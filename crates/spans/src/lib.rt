@@ -72,8 +72,8 @@ fn next_beside(pool: &[u32], s: u32, key: u32) -> Answer
         return Answer::Refused(Refusal::KeyAbsent);
     }
     let w = descend(pool, s, key);
-    let c = get_slot(pool, w.leaf);
-    Answer::Done(c.key)
+    let end = get_slot(pool, w.leaf);
+    Answer::Done(end.key)
 }
 
 // The smallest key at or above key, in the tree under the root; 6 if there is none. 01: "root slot (0 if empty)". It goes down one way, and where
@@ -106,13 +106,13 @@ struct Tally {
 }
 
 // 1 for a key from a to b, else 0.
-fn one_within(a: u32, b: u32, key: u32) -> u32
-    ensures { λ r. ⌜ r ≡ one (within a b key) ⌝ }
+fn one_within(a: u32, b: u32, k: u32) -> u32
+    ensures { λ r. ⌜ r ≡ one (within a b k) ⌝ }
 {
-    if key < a {
+    if k < a {
         return 0;
     }
-    if b < key {
+    if b < k {
         return 0;
     }
     1
