@@ -12,10 +12,13 @@ use Rattle.spans.proofs.next_to.Tie as tie
 
 returns : tie.Need-returns
 unfolding nextTo
-returns c = rw (lt-leb _ _ (c .if1 .taken), nextTo)
+returns c =
+    let given = c .before .before .args in
+    let crossed : given .b < given .next = omega (arith, c .if1 .taken) in
+    rw (lt-leb _ _ crossed, nextTo)
 
 cast-at-or-above : tie.Need-cast-at-or-above
-cast-at-or-above c = search needs
+cast-at-or-above c = record { fits = omega (arith, c .if1 .left) }
 
 at-or-above-requires : tie.Need-at-or-above-requires
 at-or-above-requires c κs = search needs
@@ -25,23 +28,31 @@ enum-known-key c = search needs
 
 returns-2 : tie.Need-returns-2
 unfolding nextTo
-returns-2 c = rw (le-leb _ _ (c .before .before .if1 .left), nextTo, sym (c .before .at-or-above .ensures), none-at _ (no-key _ (c .match .keys2)))
+returns-2 c =
+    let asked = c .before in
+    let given = asked .before .before .before .args in
+    let from : given .next ≤ given .b = omega (arith, asked .before .if1 .left) in
+    rw (le-leb _ _ from, nextTo, sym (asked .at-or-above .ensures), none-at _ (no-key _ (c .match .keys2)))
 
 returns-3 : tie.Need-returns-3
 unfolding nextTo
 returns-3 c =
     let found = c .before .before in
     let asked = found .before .before in
-    let over : asked .before .before .before .args .b < found .key .given .0 .0 = omega (arith, c .if2 .taken) in
-    rw (le-leb _ _ (asked .before .if1 .left), nextTo, sym (asked .at-or-above .ensures), found .key .given .1, above _ _ over)
+    let given = asked .before .before .before .args in
+    let from : given .next ≤ given .b = omega (arith, asked .before .if1 .left) in
+    let over : given .b < found .key .given .0 .0 = omega (arith, c .if2 .taken) in
+    rw (le-leb _ _ from, nextTo, sym (asked .at-or-above .ensures), found .key .given .1, above _ _ over)
 
 returns-4 : tie.Need-returns-4
 unfolding nextTo
 returns-4 c =
     let found = c .before .before in
     let asked = found .before .before in
-    let to : found .key .given .0 .0 ≤ asked .before .before .before .args .b = omega (arith, c .if2 .left) in
-    rw (le-leb _ _ (asked .before .if1 .left), nextTo, sym (asked .at-or-above .ensures), found .key .given .1, not-above _ _ to)
+    let given = asked .before .before .before .args in
+    let from : given .next ≤ given .b = omega (arith, asked .before .if1 .left) in
+    let to : found .key .given .0 .0 ≤ given .b = omega (arith, c .if2 .left) in
+    rw (le-leb _ _ from, nextTo, sym (asked .at-or-above .ensures), found .key .given .1, not-above _ _ to)
 
 pub next-to-spec : {M : Type 1} → statement M
 next-to-spec =
