@@ -93,7 +93,7 @@ enum chromatic_operation {
     CHROMATIC_DELETE = 3,      /* key; number: keys left */
     CHROMATIC_STEP = 4,        /* slot, kind; number: the kind */
     CHROMATIC_SETTLE = 5,      /* budget; number: steps taken */
-    CHROMATIC_AT_OR_ABOVE = 6, /* key; number: the smallest key at or above it. To walk on, ask from the number plus 1, but after UINT32_MAX */
+    CHROMATIC_AT_OR_ABOVE = 6, /* key; number: the smallest key at or above it. To walk on, ask from the number plus 1; after UINT32_MAX there is none */
     CHROMATIC_COUNT = 7,       /* first, last; number: how many keys are from first to last, both counting; 0 where first is above last */
     CHROMATIC_DELETE_SPAN = 8  /* first, last; number: how many went: all keys from first to last, the smallest first. Code 0 also for
                                 * none. Whoever had a text by one of them can get it again */

@@ -72,7 +72,7 @@ impl Report {
     }
 
     /// A budget with which settle ends, if one fits a command: no more than `bound` steps can be accepted before the
-    /// next insert or delete.
+    /// next update: an insert, a delete, a delete of a span that takes a key, a yes of the send limit, or a clearing that takes a mark.
     ///
     /// Proved: `settle-enough`, `settle-falls`.
     #[must_use]
@@ -275,7 +275,8 @@ impl<W: Words> Pool<W> {
         })
     }
 
-    /// The report's seventh number alone: no more steps than this can be accepted before the next insert or delete.
+    /// The report's seventh number alone: no more steps than this can be accepted before the next update: an insert, a delete, a delete of
+    /// a span that takes a key, a yes of the send limit, or a clearing that takes a mark.
     ///
     /// # Errors
     /// As [`Pool::audit`].

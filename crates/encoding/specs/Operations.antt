@@ -9,7 +9,7 @@ use Rattle.encoding.specs.declared.Which.{Which}
 use Rattle.encoding.specs.declared.Which.the-variants.{Known, Unknown}
 
 -- RULES 7.3: "1 search key; 2 insert key; 3 delete key; 4 step slot kind; 5 settle budget"; by 02 (vii) (RULES 18.1) "three new batch commands: 6 [..];
--- 7 [..]; 8", the first with a key, the others with two.
+-- 7 [..]; 8", the first with a key, the others with two: "the operation numbers 6 to 8 are no longer code 3."
 abbrev pub operationNumber : Operation → ℕ
 operationNumber Search = 1
 operationNumber Insert = 2

@@ -204,7 +204,8 @@ fn after(key: u32) -> u64
     key as u64 + 1
 }
 
-// 02 (vii): "delete all keys from a to b, smallest first, answering how many went." Each is found by one descent and deleted by another.
+// 02 (vii): "delete all keys from a to b, smallest first, answering how many went." Each is found as `at_or_above` finds it, and deleted by a way of
+// its own.
 pub fn delete_span_under(pool: &mut [u32], h: Header, a: u32, b: u32) -> Performed
     ensures result { λ r. ⌜ r ≡ (deleteSpanUnder (now (pool .entry)) h a b) .result ⌝ }
     ensures pool { λ _. ⌜ now (pool .exit) ≡ (deleteSpanUnder (now (pool .entry)) h a b) .words ⌝ }

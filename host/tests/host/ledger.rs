@@ -413,7 +413,7 @@ impl Town {
 
     /// A command that moves no mark, but for steps and settles: its keys are neighbours'.
     fn harmless(&self, rng: &mut Rng, set: &Set) -> Command {
-        match rng.below(9) {
+        match rng.below(10) {
             0 => Command::Search(self.any_key(rng)),
             1 => Command::Insert(self.neighbour(rng)),
             2 => Command::Delete(self.neighbour(rng)),
@@ -423,6 +423,15 @@ impl Town {
             6 => {
                 let key = self.neighbour(rng);
                 Command::DeleteSpan(key, key)
+            }
+            7 => {
+                // up to the next key of the set: marks may lie in the span, but none that is there
+                let first = self.any_key(rng);
+                match set.in_order().into_iter().find(|&there| there >= first) {
+                    None => Command::DeleteSpan(first, u32::MAX),
+                    Some(next) if next > first => Command::DeleteSpan(first, next - 1),
+                    Some(_) => Command::DeleteSpan(first, 0),
+                }
             }
             _ => step(rng, set),
         }
