@@ -265,6 +265,14 @@ fn steps_end_within_the_bound() {
                     if allowed.is_empty() {
                         break;
                     }
+                    // 02 (vii): deleting a span without a key is no update, and the bound stands.
+                    if rng.below(4) == 0 {
+                        let key = rng.within(0, 120);
+                        let first = if pair.twin.in_order().contains(&key) { key + 1 } else { key };
+                        let words = pair.words.clone();
+                        pair.run_seen(Command::DeleteSpan(first, key), seen);
+                        assert_eq!(pair.words, words, "no key from {first} to {key}");
+                    }
                     let (slot, kind) = rng.pick(&allowed);
                     pair.run_seen(Command::Step(slot, kind), seen);
                     taken += 1;
