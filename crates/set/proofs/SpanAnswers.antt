@@ -18,7 +18,7 @@ use Rattle.format.proofs.Shown.{words-decided}
 use Rattle.spans.specs.Spanning.{countAnswer, deleteSpanAnswer, deleteSpanWords}
 use Rattle.spans.proofs.CountShows.{count-entry}
 use Rattle.spans.proofs.SpanShows.{span-entry}
-use Rattle.set.specs.Set.{Passing, member, held, membersFrom, membersIn, SpanGone}
+use Rattle.set.specs.Set.{Passing, member, membersFrom, membersIn, SpanGone}
 use Rattle.set.proofs.Members.{member-shown, held-shown}
 use Rattle.set.proofs.Passing.{passing, shown}
 
