@@ -1,4 +1,4 @@
--- Sequences of batch calls, restarts and calls of the send limit, and their log (RULES 13, RULES 17.6): each command that ran, with the two answer
+-- Sequences of batch calls, restarts and calls of the send limit, and their log (RULES 13, RULES 17.6, RULES 18): each command that ran, with the two answer
 -- words that it got, and each call of the send limit, with its code and number. All of it can be seen from outside: bytes, arguments, answer
 -- words, codes. What the demands say of such sequences is proved in proofs/.
 use mathlib.Core.Path.{_≡_}
@@ -76,7 +76,7 @@ puts x (of-command c code number) = isOf Insert c && eqb (c .first) x && eqb cod
 puts x (of-ledger (send-call n r l code a)) = eqb (markKey n r a) x && eqb code 0
 puts x (of-ledger (clear-call n code count)) = false
 
--- .. and one that takes it out: a delete of it, a delete of a span with it (02 (vii)), or a clearing of its notice.
+-- .. and one that takes it out: a delete of it, by 02 (vii) (RULES 18.6) a delete of a span with it, or a clearing of its notice.
 unfoldable pub takes : ℕ → Entry → Bool
 takes x (of-command c code number) = (isOf Delete c && eqb (c .first) x || isOf DeleteSpan c && within (c .first) (c .second) x) && eqb code 0
 takes x (of-ledger (send-call n r l code a)) = false

@@ -89,6 +89,10 @@ w11b = pool (header 1 0 5 2) (slot 20 3 5 1 ∷ slot 10 0 0 1 ∷ slot 10 2 4 1 
 abbrev w12 : List ℕ
 w12 = pool (header 1 7 3 1) (slot 10 2 3 1 ∷ slot 10 0 0 1 ∷ slot 40 0 0 1 ∷ freeSlot 8 ∷ freeSlot 4 ∷ freeSlot 5 ∷ freeSlot 6 ∷ freeSlot 9 ∷ freeSlot 0 ∷ [])
 
+-- the same keys, but the larger of the two deleted first
+abbrev w13 : List ℕ
+w13 = pool (header 1 5 3 1) (slot 10 2 3 1 ∷ slot 10 0 0 1 ∷ slot 40 0 0 1 ∷ freeSlot 7 ∷ freeSlot 4 ∷ freeSlot 8 ∷ freeSlot 6 ∷ freeSlot 9 ∷ freeSlot 0 ∷ [])
+
 -- A call on words, with as many answer words as its n commands need, which hold 77 before it: what it gives and answers, and the
 -- words that it leaves in the pool.
 abbrev call : List ℕ → List ℕ → ℕ → Call
@@ -194,6 +198,8 @@ cases =
     ∷ row (says w1 (8 ∷ 15 ∷ 35 ∷ 7 ∷ 0 ∷ 0xFF ∷ 0xFF ∷ 0xFF ∷ 0xFF ∷ 0x0F ∷ []) 2) (0 ∷ 0 ∷ 0 ∷ 2 ∷ 0 ∷ 2 ∷ [])
     ∷ row (leaves-words w1 (8 ∷ 15 ∷ 35 ∷ []) 1) w12
     ∷ row (leaves-words w1 (3 ∷ 20 ∷ 3 ∷ 30 ∷ []) 2) w12
+    -- .. and in the other order another free chain
+    ∷ row (leaves-words w1 (3 ∷ 30 ∷ 3 ∷ 20 ∷ []) 2) w13
     ∷ []
 
 pub worked : allGiven cases ≡ allSaid cases

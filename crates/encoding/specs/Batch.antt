@@ -1,5 +1,5 @@
 -- Document 01, The batch: commands and their reading (RULES 7), a call's refusals in order, and what a call leaves in the pool and the
--- answers (RULES 8, 9).
+-- answers (RULES 8, 9); 02 (vii)'s commands among them (RULES 18).
 use mathlib.Core.Bool.{true, false, not}
 use mathlib.Core.List.{List, [], _∷_, _++_}
 use lib.Dec.{eqb, leb, ltb}

@@ -1,5 +1,5 @@
 -- Document 01's table of codes for a command, rows 5 to 12 (RULES 9), and the numbers beside them: column "Given exactly when" and column
--- "Number", over the State that the commands before it left; which code is given (RULES 8). (Rows 1 to 4 refuse a whole call: crate
+-- "Number", over the State that the commands before it left; which code is given (RULES 8); with those of 02 (vii) (RULES 18). (Rows 1 to 4 refuse a whole call: crate
 -- demands' Ends.antt.)
 use mathlib.Core.Path.{_≡_}
 use mathlib.Core.Bool.{false}

@@ -1,4 +1,4 @@
--- Documents 01, The batch, and 02 (vii) (RULES 7): the table of operations, each with its number and how many arguments it has. The one place for it.
+-- Documents 01, The batch (RULES 7), and 02 (vii) (RULES 18): the table of operations, each with its number and how many arguments it has. The one place for it.
 use mathlib.Core.List.{List, [], _∷_}
 use mathlib.Core.Option.{none, some}
 use lib.ListN.{getElem?}

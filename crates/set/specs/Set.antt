@@ -1,4 +1,4 @@
--- The set of keys that a pool shows, and what its operations answer (RULES 13.2): the words of proofs/Promises.antt. A crate above cites
+-- The set of keys that a pool shows, and what its operations answer (RULES 13.2, RULES 18): the words of proofs/Promises.antt. A crate above cites
 -- these names and cannot look behind them: `Passing`, `member`, `held`, `room` and `needed` are passed on here, and what they are stands in Inside.antt.
 use mathlib.Core.Path.{_≡_}
 use mathlib.Core.Logic.{_↔_}

@@ -7,7 +7,7 @@ use mathlib.Core.List.{List}
 use lib.ListN.{length}
 use borrow.Author.Tests.{eq-eqb, ne-eqb}
 use native.Mathlib.Omega.{arith}
-use Prim.Native.Nat.{ℕ, _-_, _≤_}
+use Prim.Native.Nat.{ℕ, _+_, _-_, _≤_}
 use Rattle.tree.specs.Tree.{Tree, size, keys}
 use Rattle.tree.specs.State.{State, Top, empty, full, keysOf, keyEnd, Sound}
 use Rattle.tree.specs.Spans.{spanOf, countSpan}
@@ -29,10 +29,13 @@ module _ {h : Header} {p : List ℕ} {S : State} {t : Tree} (sound : Sound S) (s
   pub size-last : size t ≤ lastSlot p
   size-last = omega (arith, slots-in p (S .slots) (shows .length-is), last-shown sound shows, size-within shows e sound)
 
-  pub tally-shows : (a b : ℕ) → tallyFrom (lastSlot p) p a b (h .root) (lastSlot p) ≡ tally (length (spanOf a b (keys t))) (lastSlot p - walked a b t)
+  pub tally-shows : (a b : ℕ)
+      → tallyFrom (lastSlot p) p a b (h .root) (tally 0 (lastSlot p)) ≡ tally (length (spanOf a b (keys t))) (lastSlot p - walked a b t)
   tally-shows a b =
       let ordered = tree-good S t sound e .ordered in
-      rw (root-full shows e) (tally-holds (lastSlot p) a b (lastSlot p) 0 keyEnd (shows-tree shows e) ordered size-last size-last)
+      let none-before : 0 + length (spanOf a b (keys t)) ≡ length (spanOf a b (keys t)) = omega arith in
+      let walk = tally-holds (lastSlot p) a b 0 (lastSlot p) 0 keyEnd (shows-tree shows e) ordered size-last size-last (omega arith) in
+      rw (root-full shows e) (rw none-before at walk)
 
 pub count-shows : {h : Header} {p : List ℕ} {S : State} (a b : ℕ) → Sound S → Shows h p S → countUnder p (h .root) a b ≡ (countSpan a b S) .answer
 unfolding countUnder countSpan keysOf spanOf

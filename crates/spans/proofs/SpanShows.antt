@@ -28,7 +28,7 @@ use Rattle.updates.proofs.DeleteShows.{delete-shows, delete-entry}
 use Rattle.spans.specs.Spanning.{notAbove, nextTo, deleteFrom, deleteSpanUnder, deleteSpanAnswer, deleteSpanWords, deletedEach}
 use Rattle.spans.proofs.NextShows.{next-shows}
 use Rattle.spans.proofs.CountShows.{last-shown}
-use Rattle.spans.proofs.SpanTurns.{refused, delete-none}
+use Rattle.spans.proofs.SpanTurns.{refused, not-above, above, delete-none}
 
 -- What is left to do from x on, where so many are gone.
 abbrev rest : (gone x b : ℕ) → State → Outcome
@@ -64,9 +64,9 @@ module _ {h : Header} {p : List ℕ} {S : State} (sound : Sound S) (shows : Show
       go : x ≤ b → (o : Option ℕ) → firstFrom x (keysOf (S .top)) ≡ o → NextIn x b p h S
       go i none e = ended (found i none e) (span-none-from x b (keysOf (S .top)) e)
       go i (some k) e = either-way k b
-          (λ j. next k (found i (some k) e ∙ rw (le-leb k b j, notAbove))
+          (λ j. next k (found i (some k) e ∙ not-above b k j)
           (span-first x b k (keysOf (S .top)) (keys-rise S sound) e j ∙ ap (λ (ks : List ℕ). k ∷ ks) (sym (span-after x k b S sound e))))
-          (λ j. ended (found i (some k) e ∙ rw (lt-leb k b j, notAbove)) (span-past x b k (keysOf (S .top)) (keys-rise S sound) e j))
+          (λ j. ended (found i (some k) e ∙ above b k j) (span-past x b k (keysOf (S .top)) (keys-rise S sound) e j))
 
 -- what is done from x on, at most n keys, is what is left to do
 abbrev Left : (n x b gone : ℕ) → List ℕ → Header → State → Type 0

@@ -2,12 +2,14 @@
 -- Assumes nothing.
 use mathlib.Core.Path.{_≡_, refl}
 use mathlib.Core.Logic.{⊎-elim}
+use mathlib.Core.Bool.{true, false}
 use mathlib.Core.List.{List, [], _∷_}
 use types.Run.{OneOf}
 use denote.Enum.Declared.{tagOf}
+use borrow.Author.Tests.{le-leb, lt-leb}
 use native.Mathlib.Omega.{arith}
 use native.Mathlib.Numerals.{sub-one, add-one}
-use Prim.Native.Nat.{ℕ, zero, suc, _+_, _-_, _<_}
+use Prim.Native.Nat.{ℕ, zero, suc, _+_, _-_, _≤_, _<_}
 use Rattle.tree.specs.declared.Answer.{Answer}
 use Rattle.tree.specs.declared.Answer.the-variants.{Done, Refused, Spent}
 use Rattle.tree.specs.declared.Refusal.{Refusal}
@@ -16,7 +18,7 @@ use Rattle.tree.proofs.Answer.{the-type}
 use Rattle.format.specs.declared.Header.{Header}
 use Rattle.format.specs.Performing.{written}
 use Rattle.updates.specs.Updating.{deleteUnder}
-use Rattle.spans.specs.Spanning.{notAbove, nextTo, deleteFrom}
+use Rattle.spans.specs.Spanning.{upTo, notAbove, nextTo, deleteFrom}
 
 -- an answer that is not `Done`
 pub data NoKey : Answer → Type 0 where
@@ -34,6 +36,15 @@ unfolding notAbove
 none-at b refused = refl
 none-at b spent = refl
 
+-- .. and one that is, for a key up to b and for one above it
+pub not-above : (b k : ℕ) → k ≤ b → notAbove b (Done k) ≡ Done k
+unfolding upTo notAbove
+not-above b k h = let e : upTo b k ≡ true = omega (arith, le-leb) in rw (e, notAbove)
+
+pub above : (b k : ℕ) → b < k → notAbove b (Done k) ≡ Refused KeyAbsent
+unfolding upTo notAbove
+above b k h = let e : upTo b k ≡ false = omega (arith, lt-leb) in rw (e, notAbove)
+
 pub delete-ends : (n x b gone : ℕ) (p : List ℕ) (h : Header) → n < 1 → deleteFrom n x b gone p h ≡ written p (Done gone) h
 unfolding deleteFrom
 delete-ends n x b gone p h l = let e : n ≡ 0 = omega arith in rw e
@@ -46,7 +57,7 @@ delete-none (suc n) x b gone p h e refused = rw (e, deleteFrom)
 delete-none (suc n) x b gone p h e spent = rw (e, deleteFrom)
 
 pub delete-next : (n x b gone : ℕ) (p : List ℕ) (h : Header) (k : ℕ) → 0 < n → nextTo p (h .root) x b ≡ Done k
-    → deleteFrom n x b gone p h ≡ (let w = deleteUnder p h k in deleteFrom (n - 1) (k + 1) b (gone + 1) (w .words) (w .result .header))
+    → deleteFrom n x b gone p h ≡ (let w = deleteUnder p h k in deleteFrom (n - 1) (suc k) b (gone + 1) (w .words) (w .result .header))
 unfolding deleteFrom
 delete-next zero x b gone p h k l e = absurd (omega arith)
-delete-next (suc n) x b gone p h k l e = rw (e, deleteFrom, sub-one (suc n), add-one k, add-one gone)
+delete-next (suc n) x b gone p h k l e = rw (e, deleteFrom, sub-one (suc n), add-one gone)

@@ -9,7 +9,7 @@ use mathlib.Core.List.{List, [], _∷_, _++_}
 use lib.Dec.{leb, ltb}
 use borrow.Author.Tests.{eq-eqb, ne-eqb, leb-true, leb-false, ltb-true}
 use native.Mathlib.Omega.{arith}
-use Prim.Native.Nat.{ℕ, suc, _-_, _≤_}
+use Prim.Native.Nat.{ℕ, suc, _+_, _-_, _≤_}
 use Rattle.tree.specs.Tree.{Tree, leaf, node, one, keys, Ordered}
 use Rattle.tree.specs.State.{State, Top, empty, full, keyEnd, Sound}
 use Rattle.tree.specs.Spans.{within}
@@ -21,15 +21,17 @@ use Rattle.format.specs.declared.Header.{Header}
 use Rattle.format.specs.Words.{lastSlot}
 use Rattle.format.specs.Shows.{Shows}
 use Rattle.updates.proofs.SearchShows.{root-empty, root-some}
+use Rattle.spans.specs.declared.Tally.{Tally}
 use Rattle.spans.specs.Spanning.{tallyFrom}
 use Rattle.spans.specs.Visits.{countVisits, allWithin, isNear, near, nearTop}
 use Rattle.spans.proofs.Tallies.{tally-fits}
 use Rattle.spans.proofs.Walks.{ifSo, walked, walked-most}
 use Rattle.spans.proofs.CountShows.{size-last, tally-shows}
 
--- of so many slots that it may visit none comes back, and each key is of a slot that was visited
-pub any-visits : (n : ℕ) (p : List ℕ) (a b s most : ℕ) → let t = tallyFrom n p a b s most in (t .left ≤ most) × (t .keys ≤ most - t .left)
-any-visits n p a b s most = let f = tally-fits n p a b s most in (omega (arith, f), omega (arith, f))
+-- of the slots that it may visit none comes back, and each key that it adds is of a slot that was visited
+pub any-visits : (n : ℕ) (p : List ℕ) (a b s : ℕ) (t : Tally)
+    → let u = tallyFrom n p a b s t in (u .left ≤ t .left) × (u .keys ≤ t .keys + (t .left - u .left))
+any-visits n p a b s t = let f = tally-fits n p a b s t in (f .0, omega (arith, f .0, f .1))
 
 pub count-visits-any : (p : List ℕ) (root a b : ℕ) → countVisits p root a b ≤ lastSlot p
 unfolding countVisits

@@ -4,7 +4,7 @@
 use mathlib.Core.Bool.{Bool, true, false}
 use mathlib.Core.List.{List, [], _∷_}
 use lib.Dec.{eqb, leb, ltb}
-use Prim.Native.Nat.{ℕ, zero, suc, _+_}
+use Prim.Native.Nat.{ℕ, zero, suc, pred}
 use Rattle.spans.specs.declared.Turned.{Turned}
 use Rattle.spans.specs.declared.Tally.{Tally}
 use Rattle.format.specs.declared.Header.{Header}
@@ -16,7 +16,7 @@ use Rattle.tree.specs.declared.Answer.the-variants.{Done, Refused, Spent}
 use Rattle.tree.specs.declared.Refusal.the-variants.{KeyAbsent}
 use Rattle.tree.specs.Tree.{one}
 use Rattle.tree.specs.Spans.{within}
-use Rattle.updates.specs.Updating.{toward, wayTo, deleteUnder, deleteWords}
+use Rattle.updates.specs.Updating.{sum, toward, wayTo, deleteUnder, deleteWords}
 
 abbrev pub turned : ℕ → ℕ → Turned
 turned slot beside = record { slot = slot; beside = beside }
@@ -61,30 +61,40 @@ nextAnswer p x = atOrAbove p ((headerOf p) .root) x
 abbrev pub tally : ℕ → ℕ → Tally
 tally keys left = record { keys = keys; left = left }
 
--- A side that is entered, or not; and two sides, the second with what the first has left of the slots.
-unfoldable pub entering : Bool → (ℕ → Tally) → ℕ → Tally
-entering goes side most = elim goes [ true ↦ side most | false ↦ tally 0 most ]
+-- A slot was visited: so many keys more, and one slot fewer to go.
+unfoldable pub visited : Tally → ℕ → Tally
+visited t keys = tally (sum (t .keys) keys) (pred (t .left))
 
-unfoldable pub besides : Tally → (ℕ → Tally) → Tally
-besides l side = let r = side (l .left) in tally (l .keys + r .keys) (r .left)
+-- an inner node: a router is no key
+unfoldable pub atRouter : Tally → Tally
+atRouter t = visited t 0
 
--- Under slot s, at most n slots down, with `most` slots that may be visited: no key on the left of a router below a is counted, and none on the right
--- of one that is b or above, so no walk goes there.
-unfoldable pub tallyFrom : ℕ → List ℕ → (a b s most : ℕ) → Tally
-tallyFrom zero p a b s most = tally 0 most
-tallyFrom (suc n) p a b s zero = tally 0 0
-tallyFrom (suc n) p a b s (suc most) = let c = slotAt p s in elim (eqb (c .left) 0) [
-  | true ↦ tally (one (within a b (c .key))) most
-  | false ↦ besides (entering (leb a (c .key)) (tallyFrom n p a b (c .left)) most) (entering (ltb (c .key) b) (tallyFrom n p a b (c .right)))
+-- A side that is entered, or not.
+unfoldable pub entering : Bool → (Tally → Tally) → Tally → Tally
+entering goes side t = elim goes [ true ↦ side t | false ↦ t ]
+
+-- Under slot s, at most n slots down, with what was found before: no key on the left of a router below a is counted, and none on the right of one
+-- that is b or above, so no walk goes there.
+unfoldable pub tallyFrom : ℕ → List ℕ → (a b s : ℕ) → Tally → Tally
+tallyFrom zero p a b s t = t
+tallyFrom (suc n) p a b s t = elim (eqb (t .left) 0) [
+  | true ↦ t
+  | false ↦ let c = slotAt p s in elim (eqb (c .left) 0) [
+    | true ↦ visited t (one (within a b (c .key)))
+    | false ↦ entering (ltb (c .key) b) (tallyFrom n p a b (c .right)) (entering (leb a (c .key)) (tallyFrom n p a b (c .left)) (atRouter t))
+  ]
 ]
 
 -- the whole tree, none where the root is 0
 unfoldable pub countUnder : List ℕ → (root a b : ℕ) → Answer
-countUnder p root a b = elim (eqb root 0) [ true ↦ Done 0 | false ↦ Done ((tallyFrom (lastSlot p) p a b root (lastSlot p)) .keys) ]
+countUnder p root a b = elim (eqb root 0) [ true ↦ Done 0 | false ↦ Done ((tallyFrom (lastSlot p) p a b root (tally 0 (lastSlot p))) .keys) ]
 
 -- RULES 18.5: "delete all keys from a to b, smallest first". The next to go: the smallest at or above x, where that is not above b.
+unfoldable pub upTo : (b k : ℕ) → Bool
+upTo b k = leb k b
+
 unfoldable pub notAbove : ℕ → Answer → Answer
-notAbove b (Done k) = elim (leb k b) [ true ↦ Done k | false ↦ Refused KeyAbsent ]
+notAbove b (Done k) = elim (upTo b k) [ true ↦ Done k | false ↦ Refused KeyAbsent ]
 notAbove b (Refused f) = Refused KeyAbsent
 notAbove b (Spent n) = Refused KeyAbsent
 

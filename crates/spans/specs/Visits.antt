@@ -7,11 +7,11 @@ use Rattle.tree.specs.Tree.{Tree, leaf, node, one, keys}
 use Rattle.tree.specs.State.{Top, empty, full}
 use Rattle.tree.specs.Spans.{within}
 use Rattle.format.specs.Words.{lastSlot}
-use Rattle.spans.specs.Spanning.{tallyFrom}
+use Rattle.spans.specs.Spanning.{tally, tallyFrom}
 
 -- The slots that it visits: those that it might, less those that it has left at its end.
 unfoldable pub countVisits : List ℕ → (root a b : ℕ) → ℕ
-countVisits p root a b = elim (eqb root 0) [ true ↦ 0 | false ↦ lastSlot p - (tallyFrom (lastSlot p) p a b root (lastSlot p)) .left ]
+countVisits p root a b = elim (eqb root 0) [ true ↦ 0 | false ↦ lastSlot p - (tallyFrom (lastSlot p) p a b root (tally 0 (lastSlot p))) .left ]
 
 -- all keys of a list lie in the span
 unfoldable pub allWithin : (a b : ℕ) → List ℕ → Bool

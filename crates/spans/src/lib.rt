@@ -7,16 +7,19 @@ use format::Slot;
 use slots::get_header;
 use slots::get_slot;
 use slots::last_slot;
+use slots::one_less;
 use slots::put_header;
 use slots::slots_in;
+use std::num::wrapping_add_u32;
 use tree::Answer;
 use tree::Refusal;
 use updates::delete_under;
 use updates::descend;
 ghost use mathlib.Core.Path.{_≡_};
+ghost use Prim.Native.Nat.{suc};
 ghost use Rattle.tree.specs.Tree.{one};
 ghost use Rattle.tree.specs.Spans.{within};
-ghost use Rattle.spans.specs.Spanning.{turn, turnsTo, nextBeside, atOrAbove, nextAnswer, tallyFrom, countUnder, nextTo, deleteSpanUnder, countAnswer, deleteSpanAnswer, deleteSpanWords};
+ghost use Rattle.spans.specs.Spanning.{turn, turnsTo, nextBeside, atOrAbove, nextAnswer, visited, tallyFrom, countUnder, nextTo, deleteSpanUnder, countAnswer, deleteSpanAnswer, deleteSpanWords};
 
 // Where a search is, and the right child at its last turn to the left, 0 before the first.
 struct Turned {
@@ -69,8 +72,8 @@ fn next_beside(pool: &[u32], s: u32, key: u32) -> Answer
         return Answer::Refused(Refusal::KeyAbsent);
     }
     let w = descend(pool, s, key);
-    let c = get_slot(pool, w.leaf);
-    Answer::Done(c.key)
+    let end = get_slot(pool, w.leaf);
+    Answer::Done(end.key)
 }
 
 // The smallest key at or above key, in the tree under the root; 6 if there is none. 01: "root slot (0 if empty)". It goes down one way, and where
@@ -103,59 +106,55 @@ struct Tally {
 }
 
 // 1 for a key from a to b, else 0.
-fn one_within(a: u32, b: u32, key: u32) -> u32
-    ensures { λ r. ⌜ r ≡ one (within a b key) ⌝ }
+fn one_within(a: u32, b: u32, k: u32) -> u32
+    ensures { λ r. ⌜ r ≡ one (within a b k) ⌝ }
 {
-    if key < a {
+    if k < a {
         return 0;
     }
-    if b < key {
+    if b < k {
         return 0;
     }
     1
 }
 
-// The keys from a to b under slot s, at most `deep` slots down; at most `most` slots are visited. All keys on the left of a router are at most the
-// router and all on the right are above it, so a side without a key of the span is not entered (`any-visits` and `count-visits` in
-// proofs/Visits.antt).
-fn tally_from(pool: &[u32], a: u32, b: u32, s: u32, deep: u32, most: u32) -> Tally
-    ensures { λ r. ⌜ r ≡ tallyFrom deep (now (pool .entry)) a b s most ⌝ }
+// A slot was visited: so many keys more, one slot fewer to go.
+fn visited(t: Tally, keys: u32) -> Tally
+    ensures { λ r. ⌜ r ≡ visited t keys ⌝ }
+{
+    Tally {
+        keys: wrapping_add_u32(t.keys, keys),
+        left: one_less(t.left),
+    }
+}
+
+// The keys from a to b under slot s, at most `deep` slots down, with what was found before; at most t.left slots are visited. All keys on the left
+// of a router are at most the router and all on the right are above it, so a side without a key of the span is not entered (`any-visits` and
+// `count-visits` in proofs/Visits.antt).
+fn tally_from(pool: &[u32], a: u32, b: u32, s: u32, deep: u32, t: Tally) -> Tally
+    ensures { λ r. ⌜ r ≡ tallyFrom deep (now (pool .entry)) a b s t ⌝ }
 {
     if deep < 1 {
-        return Tally {
-            keys: 0,
-            left: most,
-        };
+        return t;
     }
-    if most < 1 {
-        return Tally { keys: 0, left: 0 };
+    if t.left < 1 {
+        return t;
     }
     let c = get_slot(pool, s);
     if c.left == 0 {
-        return Tally {
-            keys: one_within(a, b, c.key),
-            left: most - 1,
-        };
+        return visited(t, one_within(a, b, c.key));
     }
+    // a router is no key
+    let here = visited(t, 0);
     let l = if a <= c.key {
-        tally_from(pool, a, b, c.left, deep - 1, most - 1)
+        tally_from(pool, a, b, c.left, deep - 1, here)
     } else {
-        Tally {
-            keys: 0,
-            left: most - 1,
-        }
+        here
     };
-    let r = if c.key < b {
-        tally_from(pool, a, b, c.right, deep - 1, l.left)
+    if c.key < b {
+        tally_from(pool, a, b, c.right, deep - 1, l)
     } else {
-        Tally {
-            keys: 0,
-            left: l.left,
-        }
-    };
-    Tally {
-        keys: l.keys + r.keys,
-        left: r.left,
+        l
     }
 }
 
@@ -167,7 +166,11 @@ pub fn count_under(pool: &[u32], root: u32, a: u32, b: u32) -> Answer
         return Answer::Done(0);
     }
     let slots = last_slot(pool);
-    let found = tally_from(pool, a, b, root, slots, slots);
+    let none = Tally {
+        keys: 0,
+        left: slots,
+    };
+    let found = tally_from(pool, a, b, root, slots, none);
     Answer::Done(found.keys)
 }
 
@@ -194,6 +197,13 @@ fn next_to(pool: &[u32], root: u32, next: u64, b: u32) -> Answer
     Answer::Done(key)
 }
 
+// The number after a key, one more than the last 32-bit number after the last key.
+fn after(key: u32) -> u64
+    ensures { λ r. ⌜ r ≡ suc key ⌝ }
+{
+    key as u64 + 1
+}
+
 // 02 (vii): "delete all keys from a to b, smallest first, answering how many went." Each is found by one descent and deleted by another.
 pub fn delete_span_under(pool: &mut [u32], h: Header, a: u32, b: u32) -> Performed
     ensures result { λ r. ⌜ r ≡ (deleteSpanUnder (now (pool .entry)) h a b) .result ⌝ }
@@ -212,7 +222,7 @@ pub fn delete_span_under(pool: &mut [u32], h: Header, a: u32, b: u32) -> Perform
         };
         let one = delete_under(pool, header, key);
         header = one.header;
-        next = key as u64 + 1;
+        next = after(key);
         gone += 1;
         left -= 1;
     }

@@ -6,7 +6,7 @@
 -- and have the same numbers are the same (`rising-same`). Assumes nothing.
 use mathlib.Core.Path.{_≡_, refl, ap, sym, _∙_}
 use mathlib.Core.Logic.{_≢_}
-use mathlib.Core.Bool.{Bool, true, false, _&&_, false≢true}
+use mathlib.Core.Bool.{Bool, true, false, false≢true}
 use mathlib.Core.List.{List, [], _∷_}
 use mathlib.Core.Option.{Option, none, some, Option·some-ne-none}
 use lib.Dec.{leb}
@@ -28,17 +28,17 @@ use Rattle.tree.proofs.Spans.{keys-rise, key-small}
 -- What is within a span
 
 pub inside : (a b k : ℕ) → a ≤ k → k ≤ b → within a b k ≡ true
-inside a b k h i = rw (le-leb a k h, le-leb k b i)
+inside a b k h i = cc (le-leb a k h, le-leb k b i)
 
 pub below-it : (a b k : ℕ) → k < a → within a b k ≡ false
-below-it a b k h = rw (lt-leb a k h)
+below-it a b k h = cc (lt-leb a k h)
 
 pub above-it : (a b k : ℕ) → b < k → within a b k ≡ false
-above-it a b k h = rw (lt-leb k b h) (go (leb a k))
+above-it a b k h = go (leb a k) refl
   where
-    go : (t : Bool) → (t && false) ≡ false
-    go true = refl
-    go false = refl
+    go : (t : Bool) → leb a k ≡ t → within a b k ≡ false
+    go true e = cc (e, lt-leb k b h)
+    go false e = cc e
 
 pub within-or-not : {A : Type 0} (a b k : ℕ) → (a ≤ k → k ≤ b → A) → (within a b k ≡ false → A) → A
 within-or-not a b k f g = either-way a k (λ h. either-way k b (λ i. f h i) (λ i. g (above-it a b k i))) (λ h. g (below-it a b k h))

@@ -1,5 +1,5 @@
--- Document 02 (vii) (RULES 18): keys by their order, on a State, over the list of its keys, which rise. The smallest key at or above a given one
--- serves the send limit too (RULES 17).
+-- Document 02 (vii) (RULES 18): keys by their order, on a State, over the list of its keys, which rise. (The first of these definitions serves RULES 17
+-- too.)
 use mathlib.Core.Bool.{Bool, true, false, _&&_}
 use mathlib.Core.List.{List, [], _∷_}
 use mathlib.Core.Option.{Option, none, some}
@@ -16,7 +16,7 @@ unfoldable pub firstFrom : ℕ → List ℕ → Option ℕ
 firstFrom x [] = none
 firstFrom x (k ∷ ks) = elim (leb x k) [ true ↦ some k | false ↦ firstFrom x ks ]
 
--- that key, or 6 (RULES 9.6) "when nothing lies at or above"
+-- that key, or "6 when nothing lies at or above"
 unfoldable pub keyOrAbsent : Option ℕ → Answer
 keyOrAbsent none = Refused KeyAbsent
 keyOrAbsent (some k) = Done k
@@ -45,7 +45,7 @@ keysFrom a b S = spanOf a b (keysOf (S .top))
 unfoldable pub countSpan : (a b : ℕ) → State → Outcome
 countSpan a b S = gives (Done (length (keysFrom a b S))) S
 
--- single deletes (RULES 3.3), in the list's order
+-- single deletes, in the list's order
 unfoldable pub deleteEach : List ℕ → State → State
 deleteEach [] S = S
 deleteEach (k ∷ ks) S = deleteEach ks ((delete k S) .after)

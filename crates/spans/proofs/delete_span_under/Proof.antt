@@ -4,7 +4,7 @@
 use mathlib.Core.Path.{_≡_, refl, sym, ap, _∙_}
 use native.Mathlib.Omega.{arith}
 use lib.ListN.{length}
-use Prim.Native.Nat.{_+_, _≤_}
+use Prim.Native.Nat.{suc, _+_, _≤_}
 use borrow.Author.Needs.{needs}
 use Rattle.format.specs.Performing.{Written}
 use Rattle.spans.specs.Spanning.{deleteFrom, deleteSpanUnder}
@@ -44,15 +44,12 @@ returns c =
 delete-under-requires : tie.Need-delete-under-requires Inv-loop μ-loop
 delete-under-requires c κs = search needs
 
-cast-next : tie.Need-cast-next Inv-loop μ-loop
-cast-next c = search needs
-
-add-next : tie.Need-add-next Inv-loop μ-loop
-add-next c = search needs
+after-requires : tie.Need-after-requires Inv-loop μ-loop
+after-requires c κs = search needs
 
 add-gone : tie.Need-add-gone Inv-loop μ-loop
 add-gone c =
-    let turn = c .before .before .before .before .before .before .before .before .before .before in
+    let turn = c .before .before .before .before .before .before .before .before .before .before .before in
     record { fits = omega (arith, turn .before .loop .inv .1, turn .loop-test .taken, turn .before .before .last-slot .ok) }
 
 sub-left : tie.Need-sub-left Inv-loop μ-loop
@@ -63,15 +60,17 @@ loop-less c = search needs
 
 loop-again : tie.Need-loop-again Inv-loop μ-loop
 loop-again c =
-    let deleted = c .before .before .before in
+    let deleted = c .before .before .before .before in
     let found = deleted .before .before .before in
     let turn = found .before .before .before .before in
     let inv = turn .before .loop .inv in
-    let next = sym (found .before .before .next-to .ensures) ∙ found .key .given .1 in (
+    let next = sym (found .before .before .next-to .ensures) ∙ found .key .given .1 in
+    let past : c .after .result ≡ suc (found .key .given .0 .0) = c .after .ensures in
+    let gone = deleted .delete-under .ensures in (
       deleted .delete-under .kept .0 ∙ inv .0,
       omega (arith, inv .1, turn .loop-test .taken),
       inv .2
-          ∙ (delete-next _ _ _ _ _ _ _ (turn .loop-test .taken) next ∙ rw (deleted .delete-under .ensures .0, deleted .delete-under .ensures .1)),
+          ∙ (delete-next _ _ _ _ _ _ _ (turn .loop-test .taken) next ∙ rw (past, gone .0, gone .1)),
     )
 
 same-length-2 : tie.Need-same-length-2 Inv-loop μ-loop
@@ -95,8 +94,7 @@ delete-span-under-spec =
     same-length
     returns
     delete-under-requires
-    cast-next
-    add-next
+    after-requires
     add-gone
     sub-left
     loop-less

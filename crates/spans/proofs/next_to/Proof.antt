@@ -1,10 +1,12 @@
 -- `next_to` meets its contract: each return is the case of `nextTo` and `notAbove` that the tests before it pick, at what the call ensures.
 -- Assumes nothing.
 use mathlib.Core.Path.{sym}
+use native.Mathlib.Omega.{arith}
+use Prim.Native.Nat.{_≤_, _<_}
 use borrow.Author.Tests.{le-leb, lt-leb}
 use borrow.Author.Needs.{needs}
-use Rattle.spans.specs.Spanning.{notAbove, nextTo}
-use Rattle.spans.proofs.SpanTurns.{no-key, none-at}
+use Rattle.spans.specs.Spanning.{nextTo}
+use Rattle.spans.proofs.SpanTurns.{no-key, none-at, not-above, above}
 use Rattle.spans.proofs.next_to.Statement.{statement}
 use Rattle.spans.proofs.next_to.Tie as tie
 
@@ -22,22 +24,24 @@ enum-known-key : tie.Need-enum-known-key
 enum-known-key c = search needs
 
 returns-2 : tie.Need-returns-2
-unfolding nextTo notAbove
+unfolding nextTo
 returns-2 c = rw (le-leb _ _ (c .before .before .if1 .left), nextTo, sym (c .before .at-or-above .ensures), none-at _ (no-key _ (c .match .keys2)))
 
 returns-3 : tie.Need-returns-3
-unfolding nextTo notAbove
+unfolding nextTo
 returns-3 c =
     let found = c .before .before in
     let asked = found .before .before in
-    rw (le-leb _ _ (asked .before .if1 .left), nextTo, sym (asked .at-or-above .ensures), found .key .given .1, lt-leb _ _ (c .if2 .taken), notAbove)
+    let over : asked .before .before .before .args .b < found .key .given .0 .0 = omega (arith, c .if2 .taken) in
+    rw (le-leb _ _ (asked .before .if1 .left), nextTo, sym (asked .at-or-above .ensures), found .key .given .1, above _ _ over)
 
 returns-4 : tie.Need-returns-4
-unfolding nextTo notAbove
+unfolding nextTo
 returns-4 c =
     let found = c .before .before in
     let asked = found .before .before in
-    rw (le-leb _ _ (asked .before .if1 .left), nextTo, sym (asked .at-or-above .ensures), found .key .given .1, le-leb _ _ (c .if2 .left), notAbove)
+    let to : found .key .given .0 .0 ≤ asked .before .before .before .args .b = omega (arith, c .if2 .left) in
+    rw (le-leb _ _ (asked .before .if1 .left), nextTo, sym (asked .at-or-above .ensures), found .key .given .1, not-above _ _ to)
 
 pub next-to-spec : {M : Type 1} → statement M
 next-to-spec =
