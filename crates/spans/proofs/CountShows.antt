@@ -15,19 +15,15 @@ use Rattle.tree.proofs.SoundStates.{tree-good}
 use Rattle.format.specs.declared.Header.{Header}
 use Rattle.format.specs.Words.{lastSlot}
 use Rattle.format.specs.Shows.{Shows, PoolShows}
-use Rattle.format.proofs.Shown.{shows-tree, slots-in}
+use Rattle.format.proofs.Shown.{shows-tree, slots-in, last-slot-is}
 use Rattle.updates.proofs.SearchShows.{root-empty, root-full, root-some, size-within}
 use Rattle.spans.specs.Spanning.{tally, tallyFrom, countUnder, countAnswer}
 use Rattle.spans.proofs.Walks.{walked, tally-holds}
 
--- the slots that a walk may visit are the pool's
-pub last-shown : {h : Header} {p : List ℕ} {S : State} → Sound S → Shows h p S → lastSlot p ≡ S .slots
-last-shown {p = p} {S} sound shows = omega (arith, slots-in p (S .slots) (shows .length-is), sound .few)
-
 -- the walk from the root on
 module _ {h : Header} {p : List ℕ} {S : State} {t : Tree} (sound : Sound S) (shows : Shows h p S) (e : S .top ≡ full t) where
   pub size-last : size t ≤ lastSlot p
-  size-last = omega (arith, slots-in p (S .slots) (shows .length-is), last-shown sound shows, size-within shows e sound)
+  size-last = omega (arith, slots-in p (S .slots) (shows .length-is), last-slot-is sound shows, size-within shows e sound)
 
   pub tally-shows : (a b : ℕ)
       → tallyFrom (lastSlot p) p a b (h .root) (tally 0 (lastSlot p)) ≡ tally (length (spanOf a b (keys t))) (lastSlot p - walked a b t)

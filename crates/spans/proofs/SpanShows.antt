@@ -21,13 +21,12 @@ use Rattle.tree.proofs.SpanStates.{span-crossed, span-none-from, span-past, spa
 use Rattle.format.specs.declared.Header.{Header}
 use Rattle.format.specs.Words.{lastSlot}
 use Rattle.format.specs.Shows.{Shows, PoolShows}
-use Rattle.format.proofs.Shown.{words-decided}
+use Rattle.format.proofs.Shown.{words-decided, last-slot-is}
 use Rattle.format.proofs.Performing.{Does, does-pool}
 use Rattle.updates.specs.Updating.{deleteUnder}
 use Rattle.updates.proofs.DeleteShows.{delete-shows, delete-entry}
 use Rattle.spans.specs.Spanning.{notAbove, nextTo, deleteFrom, deleteSpanUnder, deleteSpanAnswer, deleteSpanWords, deletedEach}
 use Rattle.spans.proofs.NextShows.{next-shows}
-use Rattle.spans.proofs.CountShows.{last-shown}
 use Rattle.spans.proofs.SpanTurns.{refused, not-above, above, delete-none}
 
 -- What is left to do from x on, where so many are gone.
@@ -97,7 +96,7 @@ pub span-shows : {h : Header} {p : List ℕ} {S : State} (a b : ℕ) → Sound S
 unfolding deleteSpanUnder deleteSpan
 span-shows {h} {p} {S} a b sound shows =
     let zero-more : 0 + length (keysFrom a b S) ≡ length (keysFrom a b S) = omega arith in
-    rw zero-more at (from-shows (lastSlot p) a b 0 sound shows (omega (arith, last-shown sound shows, span-fits a b S sound)))
+    rw zero-more at (from-shows (lastSlot p) a b 0 sound shows (omega (arith, last-slot-is sound shows, span-fits a b S sound)))
 
 pub span-entry : {p : List ℕ} {S : State} (a b : ℕ) → Sound S → PoolShows p S
     → (deleteSpanAnswer p a b ≡ (deleteSpan a b S) .answer) × PoolShows (deleteSpanWords p a b) ((deleteSpan a b S) .after)

@@ -10,23 +10,23 @@ returns : tie.Need-returns
 unfolding one
 returns c =
     let given = c .before .args in
-    let under : given .key < given .a = omega (arith, c .if1 .taken) in
+    let under : given .k < given .a = omega (arith, c .if1 .taken) in
     rw (lt-leb _ _ under)
 
 returns-2 : tie.Need-returns-2
 unfolding one
 returns-2 c =
     let given = c .before .before .args in
-    let from : given .a ≤ given .key = omega (arith, c .before .if1 .left) in
-    let over : given .b < given .key = omega (arith, c .if2 .taken) in
+    let from : given .a ≤ given .k = omega (arith, c .before .if1 .left) in
+    let over : given .b < given .k = omega (arith, c .if2 .taken) in
     rw (le-leb _ _ from, lt-leb _ _ over)
 
 returns-3 : tie.Need-returns-3
 unfolding one
 returns-3 c =
     let given = c .before .before .args in
-    let from : given .a ≤ given .key = omega (arith, c .before .if1 .left) in
-    let to : given .key ≤ given .b = omega (arith, c .if2 .left) in
+    let from : given .a ≤ given .k = omega (arith, c .before .if1 .left) in
+    let to : given .k ≤ given .b = omega (arith, c .if2 .left) in
     rw (le-leb _ _ from, le-leb _ _ to)
 
 pub one-within-spec : {M : Type 1} → statement M
