@@ -146,7 +146,7 @@ impl fmt::Display for Refused {
 
 impl core::error::Error for Refused {}
 
-/// A search's answer. Neither case allows a text: only [`Inserted::NewlyMarked`] and [`MaySend::Yes`] do.
+/// A search's answer. Neither case allows a text: only [`Inserted::NewlyMarked`] and [`MaySend::Yes`](crate::MaySend::Yes) do.
 #[derive(Clone, Copy, Debug, PartialEq, Eq)]
 #[must_use = "whether the key is marked is in here"]
 #[non_exhaustive]
@@ -272,7 +272,7 @@ impl Settled {
     pub const BUDGET_SPENT: u32 = 12;
 }
 
-/// What [`Pool::at_or_above`](crate::Pool::at_or_above) answers. Neither case allows a text: only [`Inserted::NewlyMarked`] and [`MaySend::Yes`] do.
+/// What [`Pool::at_or_above`](crate::Pool::at_or_above) answers. Neither case allows a text: only [`Inserted::NewlyMarked`] and [`MaySend::Yes`](crate::MaySend::Yes) do.
 #[derive(Clone, Copy, Debug, PartialEq, Eq)]
 #[must_use = "which key comes next is in here"]
 #[non_exhaustive]
