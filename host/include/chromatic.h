@@ -6,7 +6,8 @@
  * Lengths are in elements. A pointer may be NULL where its length is 0, and nowhere else. During a call what is written (pool,
  * answers, out) overlaps nothing else that is lent, the batch and the saved bytes included.
  * A batch is commands one after another, each an operation and its arguments. Numbers in it are seven-bit groups, the lowest first, the
- * top bit set where more follow, with no more groups than needed: 10 is the byte 0A, 200 the bytes C8 01 (docs/FORMATS.md).
+ * top bit set where more follow, with no more groups than needed: 10 is the byte 0A, 200 the bytes C8 01 (docs/FORMATS.md). So an
+ * operation is one byte, an argument one to five, and a command eleven at the most.
  * The place where a number goes wrong is a byte, counted from 0: its fifth if that is above 0F; else the end of the input, one past
  * the last byte, if that cuts it short; else its last byte, a 00, if it is not in shortest form. */
 #ifndef CHROMATIC_H
@@ -25,8 +26,8 @@ extern "C" {
 /* The number of this interface; docs/INTERFACE.md says what each has. The function returns it. With GCC and Clang every file that
  * includes this header refers to the function, so that a program does not link with an archive of another interface; with
  * another compiler, call it once. */
-#define CHROMATIC_INTERFACE 6
-uint32_t chromatic_interface_6(void);
+#define CHROMATIC_INTERFACE 7
+uint32_t chromatic_interface_7(void);
 #ifdef __GNUC__
 __attribute__((used))
 #ifdef __has_attribute
@@ -34,7 +35,7 @@ __attribute__((used))
 __attribute__((retain)) /* from --gc-sections */
 #endif
 #endif
-static uint32_t (*const chromatic_interface_needed)(void) = chromatic_interface_6;
+static uint32_t (*const chromatic_interface_needed)(void) = chromatic_interface_7;
 #endif
 
 #ifdef __GNUC__
@@ -46,6 +47,7 @@ static uint32_t (*const chromatic_interface_needed)(void) = chromatic_interface_
 #define CHROMATIC_POOL_WORDS(slots) (4 + 4 * CHROMATIC_AS(size_t, slots)) /* slots from 1 to CHROMATIC_MOST_SLOTS */
 #define CHROMATIC_MOST_SLOTS 1023                                         /* which hold 512 keys */
 #define CHROMATIC_MOST_COMMANDS 256
+#define CHROMATIC_COMMAND_BYTES 11 /* at the most: an operation and two arguments */
 #define CHROMATIC_ANSWER_WORDS 2 /* for each command: code, number */
 #define CHROMATIC_SAVED_BYTES(nodes) (4 + 7 * CHROMATIC_AS(size_t, nodes)) /* enough for that many nodes; for C, whatever is in the pool */
 
@@ -68,7 +70,7 @@ enum chromatic_code {
     CHROMATIC_FEW_ANSWERS = 4,
     /* The command is refused, and no pool word changes. */
     CHROMATIC_KEY_PRESENT = 5,
-    CHROMATIC_KEY_ABSENT = 6,
+    CHROMATIC_KEY_ABSENT = 6, /* of CHROMATIC_AT_OR_ABOVE: every key is below */
     CHROMATIC_NO_ROOM = 7, /* the key is not in the set and cannot be marked: send nothing, asking again puts it there no sooner; of
                             * chromatic_may_send, where the call is refused whole, the same of the attempt */
     CHROMATIC_NO_INNER_NODE = 8,
@@ -86,11 +88,15 @@ enum chromatic_code {
 };
 
 enum chromatic_operation {
-    CHROMATIC_SEARCH = 1, /* key; number: the leaf's slot */
-    CHROMATIC_INSERT = 2, /* key; number: the new key's slot */
-    CHROMATIC_DELETE = 3, /* key; number: keys left */
-    CHROMATIC_STEP = 4,   /* slot, kind; number: the kind */
-    CHROMATIC_SETTLE = 5  /* budget; number: steps taken */
+    CHROMATIC_SEARCH = 1,      /* key; number: the leaf's slot */
+    CHROMATIC_INSERT = 2,      /* key; number: the new key's slot */
+    CHROMATIC_DELETE = 3,      /* key; number: keys left */
+    CHROMATIC_STEP = 4,        /* slot, kind; number: the kind */
+    CHROMATIC_SETTLE = 5,      /* budget; number: steps taken */
+    CHROMATIC_AT_OR_ABOVE = 6, /* key; number: the smallest key at or above it. To walk on, ask from the number plus 1; after UINT32_MAX there is none */
+    CHROMATIC_COUNT = 7,       /* first, last; number: how many keys are from first to last, both counting; 0 where first is above last */
+    CHROMATIC_DELETE_SPAN = 8  /* first, last; number: how many went: all keys from first to last, the smallest first. Code 0 also for
+                                * none. Whoever had a text by one of them can get it again */
 };
 
 enum chromatic_figure {

@@ -146,7 +146,7 @@ impl fmt::Display for Refused {
 
 impl core::error::Error for Refused {}
 
-/// A search's answer. Neither case allows a text: only [`Inserted::NewlyMarked`] does.
+/// A search's answer. Neither case allows a text: only [`Inserted::NewlyMarked`] and [`MaySend::Yes`](crate::MaySend::Yes) do.
 #[derive(Clone, Copy, Debug, PartialEq, Eq)]
 #[must_use = "whether the key is marked is in here"]
 #[non_exhaustive]
@@ -161,7 +161,7 @@ pub enum Searched {
 }
 
 impl Searched {
-    /// The code of [`Searched::KeyAbsent`], and of [`Deleted::KeyAbsent`].
+    /// The code of [`Searched::KeyAbsent`], of [`Deleted::KeyAbsent`], and of [`Found::NoneAbove`].
     pub const KEY_ABSENT: u32 = 6;
 }
 
@@ -272,7 +272,19 @@ impl Settled {
     pub const BUDGET_SPENT: u32 = 12;
 }
 
-/// A command of a batch with its answer. A refused command changed no pool word and did not stop those after it.
+/// What [`Pool::at_or_above`](crate::Pool::at_or_above) answers. Neither case allows a text: only [`Inserted::NewlyMarked`] and [`MaySend::Yes`](crate::MaySend::Yes) do.
+#[derive(Clone, Copy, Debug, PartialEq, Eq)]
+#[must_use = "which key comes next is in here"]
+#[non_exhaustive]
+pub enum Found {
+    /// Code 0: the smallest key of the set that is at or above the one asked for.
+    Key(u32),
+    /// Code 6: every key of the set is below the one asked for, or there is none at all.
+    NoneAbove,
+}
+
+/// A command of a batch with its answer. A refused command changed no pool word and did not stop those after it. The answer to
+/// a count is how many keys the span has, to a delete of a span how many it had, which are gone.
 #[derive(Debug)]
 #[must_use = "which keys were marked is in here"]
 #[non_exhaustive]
@@ -283,6 +295,9 @@ pub enum Answer {
     Delete { key: u32, answer: Deleted },
     Step { slot: u32, kind: Kind, answer: Stepped },
     Settle { budget: u32, answer: Settled },
+    AtOrAbove { key: u32, answer: Found },
+    Count { first: u32, last: u32, answer: u32 },
+    DeleteSpan { first: u32, last: u32, answer: u32 },
 }
 
 impl Answer {
@@ -294,6 +309,9 @@ impl Answer {
             Command::Delete { key } => Answer::Delete { key, answer: Deleted::read(code, number) },
             Command::Step { slot, kind } => Answer::Step { slot, kind, answer: Stepped::read(code) },
             Command::Settle { budget } => Answer::Settle { budget, answer: Settled::read(code, number) },
+            Command::AtOrAbove { key } => Answer::AtOrAbove { key, answer: Found::read(code, number) },
+            Command::Count { first, last } => Answer::Count { first, last, answer: how_many(code, number) },
+            Command::DeleteSpan { first, last } => Answer::DeleteSpan { first, last, answer: how_many(code, number) },
         }
     }
 }
@@ -351,6 +369,24 @@ impl Settled {
     }
 }
 
+impl Found {
+    pub(crate) fn read(code: u32, number: u32) -> Found {
+        match code {
+            0 => Found::Key(number),
+            Searched::KEY_ABSENT => Found::NoneAbove,
+            _ => foreign(code),
+        }
+    }
+}
+
+/// The answer to a count or a delete of a span, which is refused never.
+pub(crate) fn how_many(code: u32, number: u32) -> u32 {
+    match code {
+        0 => number,
+        _ => foreign(code),
+    }
+}
+
 /// The library is proved to give no such code, so some other archive was linked. Stopping sends no text.
 #[cold]
 fn foreign(code: u32) -> ! {
@@ -384,6 +420,8 @@ mod tests {
             own(&[0, 6], |code| assert_eq!(Deleted::read(code, 9) == Deleted::KeyAbsent, code == 6)),
             own(&[0, 8, 10, 11], |code| assert_eq!(Stepped::read(code) == Stepped::Taken, code == 0)),
             own(&[0, 12], |code| assert_eq!(Settled::read(code, 9) == Settled::RedBlack { steps: 9 }, code == 0)),
+            own(&[0, 6], |code| assert_eq!(Found::read(code, 9) == Found::Key(9), code == 0)),
+            own(&[0], |code| assert_eq!(how_many(code, 9), 9)),
             own(&[0, 1, 2, 3, 4, 7, 13, 14, 15, 16], |code| {
                 let answer = MaySend::read(Text { notice: 1, resident: 0 }, code, 3);
                 assert_eq!(matches!(answer, Ok(MaySend::Yes(permit)) if permit.attempt() == 3), code == 0);
@@ -392,7 +430,7 @@ mod tests {
         set_hook(said);
         assert!(
             wrong.iter().all(Vec::is_empty),
-            "codes of a call, search, insert, delete, step, settle, may_send that are read wrongly: {wrong:?}"
+            "codes of a call, search, insert, delete, step, settle, at_or_above, count and delete_span, may_send that are read wrongly: {wrong:?}"
         );
     }
 }

@@ -1,6 +1,7 @@
 //! What the host asks: commands, and the bytes that carry them.
 
 use core::fmt;
+use core::ops::RangeInclusive;
 
 /// The kind of a step, 1 to 8 in the table of docs/RULES.md. With this type code 9, "kind not 1 to 8", cannot occur.
 #[derive(Clone, Copy, Debug, PartialEq, Eq)]
@@ -60,13 +61,16 @@ pub enum Command {
     Delete { key: u32 },
     Step { slot: u32, kind: Kind },
     Settle { budget: u32 },
+    AtOrAbove { key: u32 },
+    Count { first: u32, last: u32 },
+    DeleteSpan { first: u32, last: u32 },
 }
 
 /// "at most 4,294,967,295" in seven-bit groups.
 const LONGEST_NUMBER: usize = 5;
 
 impl Command {
-    /// The most bytes that a command of a good batch takes: an operation and two arguments. (With a [`Kind`] it is 7.)
+    /// The most bytes that a command of a good batch takes: an operation and two arguments.
     pub const LONGEST: usize = 1 + 2 * LONGEST_NUMBER;
 
     /// The operation's number and its arguments; the second is missing where the operation has but one.
@@ -77,7 +81,22 @@ impl Command {
             Command::Delete { key } => (3, key, None),
             Command::Step { slot, kind } => (4, slot, Some(kind.into())),
             Command::Settle { budget } => (5, budget, None),
+            Command::AtOrAbove { key } => (6, key, None),
+            Command::Count { first, last } => (7, first, Some(last)),
+            Command::DeleteSpan { first, last } => (8, first, Some(last)),
         }
+    }
+
+    /// "the number of keys from a to b"
+    pub(crate) fn count(span: RangeInclusive<u32>) -> Command {
+        let [first, last] = ends(span);
+        Command::Count { first, last }
+    }
+
+    /// "delete all keys from a to b"
+    pub(crate) fn delete_span(span: RangeInclusive<u32>) -> Command {
+        let [first, last] = ends(span);
+        Command::DeleteSpan { first, last }
     }
 
     /// Writes the command at the beginning of `bytes`, which has room for it, and gives how many bytes it took.
@@ -89,6 +108,18 @@ impl Command {
             len += write_number(second, &mut bytes[len..]);
         }
         len
+    }
+}
+
+/// The first key of a span and the last. A range that was iterated to its end is empty, and need not have its end below its start: then the
+/// first is put above the last.
+fn ends(span: RangeInclusive<u32>) -> [u32; 2] {
+    let empty = span.is_empty();
+    let (first, last) = span.into_inner();
+    if empty && first <= last {
+        [1, 0]
+    } else {
+        [first, last]
     }
 }
 
@@ -186,6 +217,51 @@ impl Batch {
     /// As [`Batch::push`].
     pub fn push_settle(&mut self, budget: u32) -> Result<(), Full> {
         self.push(Command::Settle { budget })
+    }
+
+    /// Pushes "which is the smallest key at or above this one?"
+    ///
+    /// # Errors
+    /// As [`Batch::push`].
+    pub fn push_at_or_above(&mut self, key: u32) -> Result<(), Full> {
+        self.push(Command::AtOrAbove { key })
+    }
+
+    /// Pushes "how many keys has this span?" Both ends belong to it; an empty range counts 0.
+    ///
+    /// ```
+    /// use chromatic::{Answer, Batch, Inserted, Pool};
+    ///
+    /// let mut pool = Pool::prepare(vec![0; Pool::words_for(127)])?;
+    /// for key in [10, 11, 20] {
+    ///     assert!(matches!(pool.insert(key)?, Inserted::NewlyMarked(_)));
+    /// }
+    /// let mut batch = Batch::new();
+    /// batch.push_count(10..=19)?;
+    /// batch.push_count(20..=29)?;
+    /// let counts: Vec<u32> = pool
+    ///     .run(&batch)?
+    ///     .map(|answer| match answer {
+    ///         Answer::Count { answer, .. } => answer,
+    ///         other => panic!("not asked: {other:?}"),
+    ///     })
+    ///     .collect();
+    /// assert_eq!(counts, [2, 1]);
+    /// # Ok::<(), Box<dyn std::error::Error>>(())
+    /// ```
+    ///
+    /// # Errors
+    /// As [`Batch::push`].
+    pub fn push_count(&mut self, span: RangeInclusive<u32>) -> Result<(), Full> {
+        self.push(Command::count(span))
+    }
+
+    /// Pushes "clear the marks of all keys of this span, the smallest first". Both ends belong to it; of an empty range none goes.
+    ///
+    /// # Errors
+    /// As [`Batch::push`].
+    pub fn push_delete_span(&mut self, span: RangeInclusive<u32>) -> Result<(), Full> {
+        self.push(Command::delete_span(span))
     }
 
     /// The commands pushed so far.

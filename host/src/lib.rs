@@ -33,6 +33,7 @@
 //! |---|---|---|
 //! | `if pool.insert(key)? != Inserted::KeyPresent { .. }` | E0369: an insert's answer is not compared | `compared` |
 //! | search says absent, then `send(key)` | E0308: a key is no mark | `absent_then_send` |
+//! | a span counts 0, or nothing lies at or above its first key, then `send(key)` | E0308: a key is no mark | `none_in_span_then_send` |
 //! | `if !matches!(answer, Inserted::KeyPresent) { send(key) }` | E0308: a key is no mark | `not_key_present` |
 //! | a `match` without [`Inserted::NoRoom`] | E0004 | `no_room_forgotten` |
 //! | `send(mark); send(mark)` | E0382: a mark is used up | `sent_twice` |
@@ -80,6 +81,8 @@
 //! | a send that takes a key, on `!matches!(.., KeyPresent)`: the same | the same | `still_not_key_present` |
 //! | a mark from another pool, made to get at a send | one pool for each sender; another is for another sender, or for tests | `still_scratch_pool` |
 //! | preparing anew on [`Inserted::NoRoom`]: every mark is gone, every text can go again | no text; call the desk; [`Pool::delete`] the keys of notices that are over, or begin with more slots | `still_prepared_again` |
+//! | [`Pool::delete_span`] of marks whose notice stands, to make room: their texts can go again | the same; delete what is over, after that is stored | `still_span_deleted_while_it_stands` |
+//! | walking a span by [`Pool::at_or_above`] of `key.wrapping_add(1)`, or of `key + 1` in a build that does not check it: after the last 32-bit key it begins again at the first, and never ends | `key.checked_add(1)`, and end where that is none | `still_walked_round` |
 //! | sending by the words that [`Pool::run_bytes`] or [`raw`] fill, on whatever is not code 5 | [`Pool::run`], whose answers hold marks | `still_words_instead_of_marks` |
 //! | `if let Inserted::NewlyMarked(mark) = .. { send(mark) }` alone: a full pool looks like "marked before", and nobody calls the desk | `match` all three cases | `still_no_room_unseen` |
 //! | a send that borrows: `fn send(mark: &Mark)` (clippy's `needless_pass_by_value` proposes it), or a shared `Rc<Mark>` | take it by value, and allow that lint there | `still_mark_borrowed` |
@@ -129,6 +132,13 @@
 //!
 //! [`Pool::clear_notice`] forgets a notice's marks, to make room. Its count begins afresh, so it comes after the notice is over,
 //! and after that is stored. examples/dispatcher.rs is such a sender, tested with a kill and with a power cut at every step.
+//!
+//! # A span of keys
+//!
+//! Who was told about a notice is a span of keys. [`Pool::at_or_above`] gives the smallest key from a given one on, so that a span is walked
+//! from key to key; [`Pool::count`] says how many keys a span has, and [`Pool::delete_span`] deletes them, the smallest first. A span is a
+//! `RangeInclusive`: both ends belong to it, so that `0..=u32::MAX` is all keys; an empty range, as `5..=4`, has none. In a [`Batch`] they are
+//! [`Batch::push_at_or_above`], [`Batch::push_count`] and [`Batch::push_delete_span`]. examples/told.rs asks who was told about notice 4,411.
 //!
 //! # Over a restart
 //!
@@ -180,7 +190,7 @@ mod ledger;
 mod pool;
 pub mod raw;
 
-pub use answer::{Answer, Deleted, Inserted, Mark, Refused, Searched, Settled, Stepped};
+pub use answer::{Answer, Deleted, Found, Inserted, Mark, Refused, Searched, Settled, Stepped};
 pub use batch::{Batch, Command, Full, Kind, NoKind};
 pub use ledger::{MaySend, Permit, Text};
 pub use pool::{Answers, Pool, Report, Words};

@@ -1,12 +1,12 @@
 //! The pool and its calls.
 
-use crate::answer::{Answer, Deleted, Inserted, Mark, Refused, Searched, Settled, Stepped};
+use crate::answer::{how_many, Answer, Deleted, Found, Inserted, Mark, Refused, Searched, Settled, Stepped};
 use crate::batch::{Batch, Command, Kind};
 use crate::ledger::{MaySend, Text};
 use crate::{layout, raw};
 use core::fmt;
 use core::iter::FusedIterator;
-use core::ops::DerefMut;
+use core::ops::{DerefMut, RangeInclusive};
 
 const ANSWER_WORDS: usize = 2;
 
@@ -72,7 +72,7 @@ impl Report {
     }
 
     /// A budget with which settle ends, if one fits a command: no more than `bound` steps can be accepted before the
-    /// next insert or delete.
+    /// next update: an insert, a delete, a delete of a span that takes a key, a yes of the send limit, or a clearing that takes a mark.
     ///
     /// Proved: `settle-enough`, `settle-falls`.
     #[must_use]
@@ -275,7 +275,8 @@ impl<W: Words> Pool<W> {
         })
     }
 
-    /// The report's seventh number alone: no more steps than this can be accepted before the next insert or delete.
+    /// The report's seventh number alone: no more steps than this can be accepted before the next update: an insert, a delete, a delete of
+    /// a span that takes a key, a yes of the send limit, or a clearing that takes a mark.
     ///
     /// # Errors
     /// As [`Pool::audit`].
@@ -310,7 +311,7 @@ impl<W: Words> Pool<W> {
     /// a loop that is left by `break` or `?`, leaves keys marked whose texts nobody sends.
     ///
     /// Over any runs since [`Pool::prepare`], a search finds exactly the keys that were inserted with
-    /// [`Inserted::NewlyMarked`] and not since deleted with [`Deleted::Cleared`].
+    /// [`Inserted::NewlyMarked`] and not since deleted with [`Deleted::Cleared`] or with a span that they are in.
     ///
     /// # Errors
     /// As [`Pool::audit`]; then nothing ran.
@@ -409,6 +410,108 @@ impl<W: Words> Pool<W> {
     pub fn settle(&mut self, budget: u32) -> Result<Settled, Refused> {
         let [code, number] = self.run_one(Command::Settle { budget })?;
         Ok(Settled::read(code, number))
+    }
+
+    /// The smallest key of the set at or above this one. Changes no word. (It takes `&mut self` as [`Pool::search`] does.)
+    ///
+    /// With it a span is walked from key to key, here who was told about notice 4,411. The last 32-bit number has no key after it: `checked_add`
+    /// ends the walk there, where `key + 1` would panic or begin again at 0.
+    ///
+    /// ```
+    /// use chromatic::{Found, Inserted, MaySend, Pool, Text};
+    ///
+    /// let mut words = [0; Pool::words_for(127)];
+    /// let mut pool = Pool::prepare(&mut words[..])?;
+    /// for resident in [12, 7, 300] {
+    ///     assert!(matches!(pool.may_send(Text { notice: 4411, resident }, 1)?, MaySend::Yes(_)));
+    /// }
+    /// assert!(matches!(pool.insert(u32::MAX)?, Inserted::NewlyMarked(_)));
+    ///
+    /// let (first, last) = (4411 << 16, 4411 << 16 | 0xFFFF); // every resident, every attempt
+    /// let mut told = vec![];
+    /// let mut next = Some(first);
+    /// while let Some(from) = next {
+    ///     match pool.at_or_above(from)? {
+    ///         Found::Key(key) if key <= last => {
+    ///             told.push(key >> 3 & 0x1FFF);
+    ///             next = key.checked_add(1);
+    ///         }
+    ///         _ => next = None,
+    ///     }
+    /// }
+    /// assert_eq!(told, [7, 12, 300]);
+    /// assert_eq!(pool.at_or_above(last)?, Found::Key(u32::MAX));
+    /// # Ok::<(), chromatic::Refused>(())
+    /// ```
+    ///
+    /// It is for screens and reports. [`Found::NoneAbove`] is no leave to send, as [`Searched::KeyAbsent`] is none.
+    ///
+    /// # Errors
+    /// As [`Pool::audit`].
+    ///
+    /// Proved: `batch-at-or-above`, `next-shows`.
+    pub fn at_or_above(&mut self, key: u32) -> Result<Found, Refused> {
+        let [code, number] = self.run_one(Command::AtOrAbove { key })?;
+        Ok(Found::read(code, number))
+    }
+
+    /// How many keys of the set are in the span, both ends counting; 0 for an empty range. Changes no word. (It takes `&mut self` as
+    /// [`Pool::search`] does.)
+    ///
+    /// ```
+    /// use chromatic::{Inserted, Pool};
+    ///
+    /// let mut words = [0; Pool::words_for(127)];
+    /// let mut pool = Pool::prepare(&mut words[..])?;
+    /// for key in [0, 10, 20, u32::MAX] {
+    ///     assert!(matches!(pool.insert(key)?, Inserted::NewlyMarked(_)));
+    /// }
+    /// assert_eq!(pool.count(10..=20)?, 2);
+    /// assert_eq!(pool.count(11..=19)?, 0);
+    /// assert_eq!(pool.count(0..=u32::MAX)?, 4);
+    /// # Ok::<(), chromatic::Refused>(())
+    /// ```
+    ///
+    /// It is for screens and reports: a 0 is no leave to send.
+    ///
+    /// # Errors
+    /// As [`Pool::audit`].
+    ///
+    /// Proved: `batch-counts`, `count-shows`.
+    pub fn count(&mut self, span: RangeInclusive<u32>) -> Result<u32, Refused> {
+        let [code, number] = self.run_one(Command::count(span))?;
+        Ok(how_many(code, number))
+    }
+
+    /// Clears the marks of all keys in the span, the smallest first, both ends counting, and gives how many went; 0 for an empty range and for
+    /// a span without a key. The words afterwards are those that as many calls of [`Pool::delete`] leave, in that order. The slots are used
+    /// again. Nothing is settled.
+    ///
+    /// **Whoever had a text by one of these keys can get it again**, as after [`Pool::delete`], and a [`Mark`] of one of them is
+    /// out of date. So it is for what is over, and never to make room. A notice that is over is cleared with [`Pool::clear_notice`], which
+    /// knows its keys and spares others.
+    ///
+    /// ```
+    /// use chromatic::{Inserted, Pool, Searched};
+    ///
+    /// let mut words = [0; Pool::words_for(127)];
+    /// let mut pool = Pool::prepare(&mut words[..])?;
+    /// for key in [10, 20, 30, u32::MAX] {
+    ///     assert!(matches!(pool.insert(key)?, Inserted::NewlyMarked(_)));
+    /// }
+    /// assert_eq!(pool.delete_span(20..=u32::MAX)?, 3);
+    /// assert_eq!(pool.delete_span(20..=u32::MAX)?, 0);
+    /// assert_eq!((pool.search(20)?, pool.keys()?), (Searched::KeyAbsent, 1));
+    /// # Ok::<(), chromatic::Refused>(())
+    /// ```
+    ///
+    /// # Errors
+    /// As [`Pool::audit`]; then no word changes.
+    ///
+    /// Proved: `batch-deletes-span`, `batch-deletes-singly`, `history`.
+    pub fn delete_span(&mut self, span: RangeInclusive<u32>) -> Result<u32, Refused> {
+        let [code, number] = self.run_one(Command::delete_span(span))?;
+        Ok(how_many(code, number))
     }
 
     /// Asks whether one more text may go, and marks it in the same call. [`MaySend::Yes`] has the [`Permit`](crate::Permit) of

@@ -7,7 +7,7 @@
 
 mod c {
     extern "C" {
-        pub fn chromatic_interface_6() -> u32;
+        pub fn chromatic_interface_7() -> u32;
         pub fn chromatic_prepare(pool: *mut u32, pool_len: usize) -> u32;
         pub fn chromatic_audit(pool: *const u32, pool_len: usize) -> u32;
         pub fn chromatic_report(pool: *const u32, pool_len: usize, index: u32) -> u64;
@@ -26,12 +26,12 @@ mod c {
     }
 }
 
-/// The number of the interface that this crate is made for, 6; docs/INTERFACE.md says what each number has. The library's
+/// The number of the interface that this crate is made for, 7; docs/INTERFACE.md says what each number has. The library's
 /// function is named for it, and every function here calls it, so that an archive of another interface does not link.
 #[must_use]
 pub fn interface() -> u32 {
     // SAFETY: it takes nothing and changes nothing.
-    unsafe { c::chromatic_interface_6() }
+    unsafe { c::chromatic_interface_7() }
 }
 
 /// Makes a pool empty. Gives 0; or 1, changing nothing, if the length is not 4 + 4C with C from 1 to 1,023. (C slots hold

@@ -15,7 +15,11 @@
  * read is a word that the scan before it did not, once. Where v is not in slot 1 that asks a little more than the rule does, since the scan
  * looked at lower slots too. (Today a taking reads nothing in the library's archive, and in the cousin's one word that was put off.)
  * A later step, or a second command, must also touch each word as often as it does as the first on that pool. (A compiler that treats the
- * first apart could break this one verdict without a fault.) */
+ * first apart could break this one verdict without a fault.)
+ * Of a command over a span it is said how often it may read a slot, its words at most so often each, by the ways of searches in its pool: 6 by
+ * one way, and one more from where the last turn to the left could have gone if the first ends below the key; 8 by such ways, the way of a
+ * delete and the slots that this writes, for each key. The leaf where a way ends may be read twice, since its key is looked at after the way. 7
+ * reads the slots on the ways to both ends of its span and to every key in it, each once and every one of them, and no other slot. */
 #include "../include/chromatic.h"
 #include <inttypes.h>
 #include <stdatomic.h>
@@ -25,6 +29,7 @@
 
 enum { HEADER = 4, SLOT = 4, MOST_SLOTS = 127, MOST_COMMANDS = 2, MOST_WORDS = HEADER + SLOT * MOST_SLOTS };
 enum { KEY, LEFT, RIGHT, WEIGHT };
+enum { ROOT }; /* of the header */
 
 static union {
     uint32_t word[MOST_WORDS];
@@ -264,9 +269,10 @@ static const struct pool *loaded(const uint8_t *saved, size_t bytes) {
 
 /* Rows. */
 
-enum form { IDLE, COMMAND, STEP, SECOND, SETTLED, TAKING, SETTLED_LATER, TAKING_LATER, FORMS };
+enum form { IDLE, COMMAND, SPAN, STEP, SECOND, SETTLED, TAKING, SETTLED_LATER, TAKING_LATER, FORMS };
 static const char *const groups[FORMS] = {"a call",
                                           "another command",
+                                          "a command over a span",
                                           "a step command",
                                           "a step command, the second of its batch",
                                           "a step by settle: look and taking",
@@ -283,6 +289,8 @@ struct row {
     struct call c;
     const struct counts *look;  /* of a taking: the scan before it */
     const struct counts *alone; /* of a taking or a second command: what it does on its pool as the first */
+    const struct visits *visits; /* of a command over a span: how often it may read each slot */
+    const struct counts *singly; /* of a span that is deleted: what its single deletes do */
 };
 
 static struct row rows[300];
@@ -371,7 +379,7 @@ static const struct pool *exchanged(const struct pool *from, uint32_t a, uint32_
     struct pool *to = new_pool(from->words);
 
     memcpy(to->word, from->word, from->words * sizeof from->word[0]);
-    to->word[0] = renamed(from->word[0], a, b);
+    to->word[ROOT] = renamed(from->word[ROOT], a, b);
     to->word[1] = renamed(from->word[1], a, b);
     for (uint32_t slot = 1; slot < from->words / SLOT; slot++) {
         const uint32_t *old = &from->word[SLOT * slot];
@@ -512,13 +520,14 @@ static uint8_t *large_nodes(uint8_t *to, const uint8_t *from, uint32_t part, uin
 
 /* The last two parts' steps by a command and as settle's first; and of all sixteen that settle takes, from the lowest slot on, the second,
  * the third and the last two. */
+static uint8_t large_saved[2 + 2 * MOST_SLOTS] = {MOST_SLOTS, MOST_SLOTS};
+
 static void large_rows(void) {
-    static uint8_t saved[2 + 2 * MOST_SLOTS] = {MOST_SLOTS, MOST_SLOTS};
     const struct pool *pool, *at;
     char where[60];
 
-    if (large_nodes(saved + 2, saved + 2, 0, PARTS) != saved + sizeof saved) stop("the large pool has other nodes");
-    pool = at = loaded(saved, sizeof saved);
+    if (large_nodes(large_saved + 2, large_saved + 2, 0, PARTS) != large_saved + sizeof large_saved) stop("the large pool has other nodes");
+    pool = at = loaded(large_saved, sizeof large_saved);
     idle_row(pool, &none);
     for (uint32_t part = 0; part < PARTS; part++) {
         const uint32_t slot = part_slot[part], kind = part_kind(part);
@@ -576,6 +585,210 @@ static const struct asked asked[] = {
     {2, {CHROMATIC_DELETE, 35}, CHROMATIC_KEY_ABSENT, 0, four_keys, "delete, refused with 6"},
     {2, {CHROMATIC_SETTLE, 9}, CHROMATIC_GOOD, 0, four_keys, "settle, nothing to do, three inner nodes of eight slots"},
 };
+
+/* How often each slot may be read. */
+struct visits {
+    int32_t slot[MOST_SLOTS + 1];
+};
+
+static struct visits *new_visits(void) {
+    struct visits *visits = calloc(1, sizeof *visits);
+
+    if (!visits) stop("there is no memory");
+    return visits;
+}
+
+static const uint32_t *slot_words(const struct pool *on, uint32_t slot) {
+    return &on->word[SLOT * slot];
+}
+
+/* The way of a search from a slot on: each slot once, and the leaf where it ends. That leaf, and where the last turn to the left could have gone. */
+static uint32_t add_way(struct visits *visits, const struct pool *on, uint32_t slot, uint32_t key, uint32_t *beside) {
+    for (;;) {
+        const uint32_t *word = slot_words(on, slot);
+        visits->slot[slot]++;
+        if (word[LEFT] == 0) return slot;
+        if (key <= word[KEY]) *beside = word[RIGHT];
+        slot = key <= word[KEY] ? word[LEFT] : word[RIGHT];
+    }
+}
+
+/* A way, with its leaf twice. */
+static uint32_t add_search(struct visits *visits, const struct pool *on, uint32_t slot, uint32_t key, uint32_t *beside) {
+    const uint32_t leaf = add_way(visits, on, slot, key, beside);
+
+    visits->slot[leaf]++;
+    return leaf;
+}
+
+/* The smallest key at or above one: its leaf, or 0. */
+static uint32_t add_next(struct visits *visits, const struct pool *on, uint32_t key) {
+    uint32_t beside = 0, leaf;
+
+    if (on->word[ROOT] == 0) return 0;
+    leaf = add_search(visits, on, on->word[ROOT], key, &beside);
+    if (slot_words(on, leaf)[KEY] >= key) return leaf;
+    return beside == 0 ? 0 : add_search(visits, on, beside, key, &beside);
+}
+
+/* A delete: its way, and the slots that it writes. */
+static void add_delete(struct visits *visits, const struct pool *on, uint32_t key) {
+    uint32_t beside = 0;
+    const uint32_t leaf = add_search(visits, on, on->word[ROOT], key, &beside);
+
+    visits->slot[leaf]++;
+    for (uint32_t slot = 1; slot < on->words / SLOT; slot++) {
+        const uint32_t *word = slot_words(on, slot);
+        if (word[WEIGHT] == UINT32_MAX || word[LEFT] == 0 || (word[LEFT] != leaf && word[RIGHT] != leaf)) continue;
+        visits->slot[slot]++;
+        visits->slot[word[LEFT] == leaf ? word[RIGHT] : word[LEFT]]++;
+    }
+}
+
+static int is_key_within(const uint32_t *word, uint32_t first, uint32_t last) {
+    return word[WEIGHT] != UINT32_MAX && word[LEFT] == 0 && first <= word[KEY] && word[KEY] <= last;
+}
+
+static uint32_t keys_within(const struct pool *on, uint32_t first, uint32_t last) {
+    uint32_t keys = 0;
+
+    for (uint32_t slot = 1; slot < on->words / SLOT; slot++) keys += (uint32_t)is_key_within(slot_words(on, slot), first, last);
+    return keys;
+}
+
+/* A count: the slots on the ways to the first, to the last and to every key between them, each once; where the first is above the last, those
+ * on both ways. */
+static void add_count(struct visits *visits, const struct pool *on, uint32_t first, uint32_t last) {
+    struct visits *to_first = new_visits(), *to_last = new_visits(), *between = new_visits();
+    uint32_t beside = 0;
+
+    if (on->word[ROOT] != 0) {
+        add_way(to_first, on, on->word[ROOT], first, &beside);
+        add_way(to_last, on, on->word[ROOT], last, &beside);
+    }
+    for (uint32_t slot = 1; slot < on->words / SLOT; slot++) {
+        const uint32_t *word = slot_words(on, slot);
+        if (is_key_within(word, first, last)) add_way(between, on, on->word[ROOT], word[KEY], &beside);
+    }
+    for (uint32_t slot = 1; slot <= MOST_SLOTS; slot++) {
+        const int a = to_first->slot[slot] > 0, b = to_last->slot[slot] > 0;
+        visits->slot[slot] = first <= last ? a || b || between->slot[slot] > 0 : a && b;
+    }
+    free(to_first);
+    free(to_last);
+    free(between);
+}
+
+/* A span, or a key by which 6 is asked. */
+struct spanned {
+    uint8_t operation, first, last;
+    const char *what;
+};
+
+static size_t span_command(uint8_t *command, const struct spanned *a) {
+    command[0] = a->operation;
+    command[1] = a->first;
+    command[2] = a->last;
+    return a->operation == CHROMATIC_AT_OR_ABOVE ? 2 : 3;
+}
+
+/* The single deletes: how often they may read each slot, with the search for each key, and what they do. The pool that they leave. */
+static const struct pool *delete_singly(const struct pool *on, const struct spanned *a, struct visits *visits, const struct counts **singly) {
+    uint32_t from = a->first;
+
+    *singly = new_counts();
+    while (from <= a->last) {
+        const uint32_t leaf = add_next(visits, on, from), key = slot_words(on, leaf)[KEY];
+        const uint8_t command[] = {CHROMATIC_DELETE, (uint8_t)key};
+        struct call one;
+        if (leaf == 0 || key > a->last) break;
+        add_delete(visits, on, key);
+        one = own(on, &none, command, sizeof command);
+        *singly = plus(*singly, one.touched);
+        on = one.after;
+        from = key + 1;
+    }
+    return on;
+}
+
+static void span_row(const struct pool *pool, const struct spanned *a, const char *where) {
+    struct visits *visits = new_visits();
+    uint8_t command[3];
+    const size_t bytes = span_command(command, a);
+    const struct pool *after = pool;
+    const struct counts *singly = NULL;
+    char what[80];
+    struct row *row;
+    uint32_t leaf;
+
+    snprintf(what, sizeof what, "%s, %s", a->what, where);
+    row = new_row(SPAN, what);
+    row->number = keys_within(pool, a->first, a->last);
+    switch (a->operation) {
+    case CHROMATIC_AT_OR_ABOVE:
+        leaf = add_next(visits, pool, a->first);
+        row->code = leaf == 0 ? CHROMATIC_KEY_ABSENT : CHROMATIC_GOOD;
+        row->number = leaf == 0 ? 0 : slot_words(pool, leaf)[KEY];
+        break;
+    case CHROMATIC_COUNT: add_count(visits, pool, a->first, a->last); break;
+    default: after = delete_singly(pool, a, visits, &singly); break;
+    }
+    row->kind = a->operation;
+    row->visits = visits;
+    row->singly = singly;
+    row->c = own(pool, &none, command, bytes);
+    row->as_the_step = same_pool(row->c.after, after);
+}
+
+/* In a set of four keys with a gap between 20 and the router 25, in an empty one, and in the one of 64 keys. */
+static const uint8_t gap_keys[] = {8, 7, INNER(1, 25), INNER(1, 10), LEAF(1, 10), LEAF(1, 20), INNER(1, 30), LEAF(1, 30), LEAF(1, 40)};
+
+static const struct spanned few_keys[] = {
+    {CHROMATIC_AT_OR_ABOVE, 40, 0, "at_or_above, the key itself"},
+    {CHROMATIC_AT_OR_ABOVE, 0, 0, "at_or_above, the smallest key"},
+    {CHROMATIC_AT_OR_ABOVE, 22, 0, "at_or_above, by two ways"},
+    {CHROMATIC_AT_OR_ABOVE, 41, 0, "at_or_above, refused with 6"},
+    {CHROMATIC_COUNT, 0, 127, "count, all four"},
+    {CHROMATIC_COUNT, 20, 30, "count, two"},
+    {CHROMATIC_COUNT, 30, 30, "count, one"},
+    {CHROMATIC_COUNT, 21, 29, "count, none"},
+    {CHROMATIC_COUNT, 41, 127, "count, none, above all"},
+    {CHROMATIC_COUNT, 40, 10, "count, the first above the last"},
+    {CHROMATIC_COUNT, 12, 11, "count, the first just above the last"},
+    {CHROMATIC_DELETE_SPAN, 0, 127, "delete_span, all four"},
+    {CHROMATIC_DELETE_SPAN, 20, 30, "delete_span, two"},
+    {CHROMATIC_DELETE_SPAN, 40, 40, "delete_span, one"},
+    {CHROMATIC_DELETE_SPAN, 21, 29, "delete_span, none"},
+    {CHROMATIC_DELETE_SPAN, 40, 10, "delete_span, the first above the last"},
+}, no_keys[] = {
+    {CHROMATIC_AT_OR_ABOVE, 0, 0, "at_or_above, refused with 6"},
+    {CHROMATIC_COUNT, 0, 127, "count, none"},
+    {CHROMATIC_DELETE_SPAN, 0, 127, "delete_span, none"},
+}, many_keys[] = {
+    {CHROMATIC_AT_OR_ABOVE, 1, 0, "at_or_above, the first"},
+    {CHROMATIC_AT_OR_ABOVE, 33, 0, "at_or_above, the middle"},
+    {CHROMATIC_AT_OR_ABOVE, 64, 0, "at_or_above, the last"},
+    {CHROMATIC_AT_OR_ABOVE, 65, 0, "at_or_above, refused with 6"},
+    {CHROMATIC_COUNT, 1, 64, "count, 64"},
+    {CHROMATIC_COUNT, 17, 32, "count, 16"},
+    {CHROMATIC_COUNT, 30, 45, "count, 16 across the middle"},
+    {CHROMATIC_COUNT, 32, 33, "count, two at the middle"},
+    {CHROMATIC_COUNT, 5, 5, "count, one"},
+    {CHROMATIC_COUNT, 65, 127, "count, none, above all"},
+    {CHROMATIC_COUNT, 33, 32, "count, the first above the last"},
+    {CHROMATIC_DELETE_SPAN, 5, 5, "delete_span, one"},
+    {CHROMATIC_DELETE_SPAN, 17, 32, "delete_span, 16"},
+    {CHROMATIC_DELETE_SPAN, 30, 45, "delete_span, 16 across the middle"},
+    {CHROMATIC_DELETE_SPAN, 1, 64, "delete_span, 64"},
+};
+
+static void span_rows(void) {
+    const struct pool *few = loaded(gap_keys, sizeof gap_keys), *no = loaded(empty, sizeof empty), *many = loaded(large_saved, sizeof large_saved);
+
+    for (size_t i = 0; i < sizeof few_keys / sizeof few_keys[0]; i++) span_row(few, &few_keys[i], "of 4 keys");
+    for (size_t i = 0; i < sizeof no_keys / sizeof no_keys[0]; i++) span_row(no, &no_keys[i], "of an empty set");
+    for (size_t i = 0; i < sizeof many_keys / sizeof many_keys[0]; i++) span_row(many, &many_keys[i], "of 64 keys");
+}
 
 static void asked_row(const struct asked *a) {
     const struct pool *pool = loaded(a->saved, a->saved == tall ? sizeof tall : saved_bytes(a->saved));
@@ -733,6 +946,43 @@ static void judge_kind(enum form form, uint32_t kind) {
     puts("the six words written, each once and with another value; no other word; no header word");
 }
 
+/* Of a command over a span. */
+static void judge_span(const struct row *row) {
+    const struct counts *touched = row->c.touched;
+    const int deletes = row->kind == CHROMATIC_DELETE_SPAN;
+    int often[MOST_WORDS] = {0}, missed[MOST_WORDS] = {0}, header[MOST_WORDS] = {0}, written[MOST_WORDS] = {0};
+
+    for (size_t word = 0; word < MOST_WORDS; word++) {
+        header[word] = word < HEADER && !deletes && touched->reads[word] > (word == ROOT);
+        written[word] = touched->writes[word] > (deletes ? row->singly->writes[word] : 0);
+        if (word < HEADER) continue;
+        often[word] = touched->reads[word] > row->visits->slot[word / SLOT];
+        if (row->kind == CHROMATIC_COUNT && word % SLOT == KEY && row->visits->slot[word / SLOT] > 0) missed[word] = touched->reads[word] == 0;
+    }
+    no_word(row, often, touched->reads, "read more often than on the ways to the span and in it");
+    no_word(row, missed, touched->reads, "not read, and on the way to the span or in it");
+    no_word(row, header, touched->reads, "read of the header, and not the root once");
+    no_word(row, written, touched->writes, deletes ? "written more often than by single deletes" : "written");
+}
+
+static void judge_spans(void) {
+    static const char *const holds[] = {"one way is read, or two; nothing is written",
+                                        "the slots on the ways to both ends and to every key between are read, each once, and no other; nothing is written",
+                                        "for each key no more is read than by its next one and a delete, and no more written than by single deletes"};
+
+    for (uint32_t operation = CHROMATIC_AT_OR_ABOVE; operation <= CHROMATIC_DELETE_SPAN; operation++) {
+        const int failed_before = failed;
+        int pools = 0;
+        for (size_t i = 0; i < row_count; i++) {
+            if (rows[i].form != SPAN || rows[i].kind != operation) continue;
+            judge_span(&rows[i]);
+            pools++;
+        }
+        if (pools == 0) stop("an operation over a span without a pool");
+        if (failed == failed_before) printf("passed: %s, operation %" PRIu32 ", %d of them: %s\n", groups[SPAN], operation, pools, holds[operation - CHROMATIC_AT_OR_ABOVE]);
+    }
+}
+
 static int known_are_counted(void) {
     const struct counts want = {.reads = {[5] = 2, [6] = 1, [7] = 1, [13] = 1, [14] = 1}, .writes = {[8] = 1, [9] = 1, [11] = 1, [13] = 1}};
 
@@ -793,10 +1043,11 @@ static void perform_or_count(void) {
     for (size_t i = 0; i < sizeof seconds / sizeof seconds[0]; i++) second_rows(&seconds[i]);
     large_rows();
     for (size_t i = 0; i < sizeof asked / sizeof asked[0]; i++) asked_row(&asked[i]);
+    span_rows();
 }
 
 static void print_all(void) {
-    static const enum form printed[] = {IDLE, STEP, SECOND, SETTLED, TAKING, SETTLED_LATER, TAKING_LATER, COMMAND};
+    static const enum form printed[] = {IDLE, STEP, SECOND, SETTLED, TAKING, SETTLED_LATER, TAKING_LATER, COMMAND, SPAN};
 
     puts("Columns: reads, of how many words, how often the word that is read most; writes, to how many words, how many of these have another");
     puts("value than before; words of the header that are read, and written. v is the node of the step, u its red child, t u's red child, a u's");
@@ -807,6 +1058,7 @@ static void print_all(void) {
     for (enum form form = STEP; form < FORMS; form++) {
         for (uint32_t kind = 4; kind <= 5; kind++) judge_kind(form, kind);
     }
+    judge_spans();
     printf("%d passed, %d failed\n", passed, failed);
 }
 

@@ -1,5 +1,5 @@
 /* The header compiles as C and C++, and its declarations fit the archive: P1, P6, a set saved and loaded, the excess weight, a pool of before,
- * the send limit, the order of refusals, the places where a batch and saved bytes go wrong, NULL with length 0. */
+ * spans of keys, the send limit, the order of refusals, the places where a batch and saved bytes go wrong, NULL with length 0. */
 #include "../include/chromatic.h"
 #include <stdio.h>
 #include <string.h>
@@ -35,12 +35,13 @@ static void numbers(void) {
                          CHROMATIC_KEY_PRESENT, CHROMATIC_KEY_ABSENT, CHROMATIC_NO_ROOM, CHROMATIC_NO_INNER_NODE, CHROMATIC_NO_KIND,
                          CHROMATIC_CONDITION_FALSE, CHROMATIC_TOO_TALL, CHROMATIC_BUDGET_SPENT, CHROMATIC_BAD_SAVED, CHROMATIC_NO_FIT,
                          CHROMATIC_OUT_OF_RANGE, CHROMATIC_ALL_USED};
-    const int operations[] = {CHROMATIC_SEARCH, CHROMATIC_INSERT, CHROMATIC_DELETE, CHROMATIC_STEP, CHROMATIC_SETTLE};
+    const int operations[] = {CHROMATIC_SEARCH, CHROMATIC_INSERT, CHROMATIC_DELETE, CHROMATIC_STEP, CHROMATIC_SETTLE,
+                              CHROMATIC_AT_OR_ABOVE, CHROMATIC_COUNT, CHROMATIC_DELETE_SPAN};
     const int figures[] = {CHROMATIC_NODES, CHROMATIC_LEVEL, CHROMATIC_EXCESS_WEIGHT, CHROMATIC_CONFLICTS, CHROMATIC_OVER_DISTANCE,
                            CHROMATIC_RED_DISTANCE, CHROMATIC_BOUND};
     int i;
     for (i = 0; i <= 16; i++) check(codes[i] == i, "codes are 0 to 16");
-    for (i = 0; i < 5; i++) check(operations[i] == i + 1, "operations are 1 to 5");
+    for (i = 0; i < 8; i++) check(operations[i] == i + 1, "operations are 1 to 8");
     for (i = 0; i < 7; i++) check(figures[i] == i + 1, "figures are 1 to 7");
 }
 
@@ -48,9 +49,10 @@ static void numbers(void) {
 static void limits(void) {
     static uint32_t pool[CHROMATIC_POOL_WORDS(CHROMATIC_MOST_SLOTS + 1)];
     static uint32_t answers[(CHROMATIC_MOST_COMMANDS + 1) * CHROMATIC_ANSWER_WORDS];
-    static uint8_t batch[(CHROMATIC_MOST_COMMANDS + 1) * 2], longest[CHROMATIC_MOST_COMMANDS * 11 + 1];
-    const uint8_t longest_command[] = {CHROMATIC_STEP, 0xFF, 0xFF, 0xFF, 0xFF, 0x0F, 0xFF, 0xFF, 0xFF, 0xFF, 0x0F};
+    static uint8_t batch[(CHROMATIC_MOST_COMMANDS + 1) * 2], longest[CHROMATIC_MOST_COMMANDS * CHROMATIC_COMMAND_BYTES + 1];
+    uint8_t longest_command[CHROMATIC_COMMAND_BYTES] = {CHROMATIC_STEP, 0xFF, 0xFF, 0xFF, 0xFF, 0x0F, 0xFF, 0xFF, 0xFF, 0xFF, 0x0F};
     const size_t words = CHROMATIC_POOL_WORDS(CHROMATIC_MOST_SLOTS), room = sizeof answers / sizeof answers[0];
+    int operation;
     size_t i;
     for (i = 0; i < sizeof batch; i += 2) batch[i] = CHROMATIC_SEARCH;
     check(chromatic_prepare(pool, CHROMATIC_POOL_WORDS(CHROMATIC_MOST_SLOTS + 1)) == CHROMATIC_WRONG_LENGTH, "a slot too many");
@@ -62,9 +64,13 @@ static void limits(void) {
     batch[512] = 0x80;
     batch[513] = 0;
     check(chromatic_batch(pool, words, batch, sizeof batch, answers, room) == wrong_at(CHROMATIC_BAD_COMMAND, 512), "and not in shortest form");
-    for (i = 0; i < 256 * 11; i += 11) memcpy(longest + i, longest_command, sizeof longest_command);
-    check(chromatic_batch(pool, words, longest, sizeof longest - 1, answers, room) == 0, "the longest batch");
-    check(chromatic_batch(pool, words, longest, sizeof longest, answers, room) == wrong_at(CHROMATIC_BAD_COMMAND, 2816), "the last place");
+    for (operation = CHROMATIC_STEP; operation <= CHROMATIC_DELETE_SPAN; operation++) {
+        if (operation == CHROMATIC_SETTLE || operation == CHROMATIC_AT_OR_ABOVE) continue; /* they have one argument */
+        longest_command[0] = CHROMATIC_AS(uint8_t, operation);
+        for (i = 0; i < sizeof longest - 1; i += sizeof longest_command) memcpy(longest + i, longest_command, sizeof longest_command);
+        check(chromatic_batch(pool, words, longest, sizeof longest - 1, answers, room) == 0, "the longest batch");
+        check(chromatic_batch(pool, words, longest, sizeof longest, answers, room) == wrong_at(CHROMATIC_BAD_COMMAND, 2816), "the last place");
+    }
 }
 
 /* Each cause, in a batch and in saved bytes. */
@@ -84,7 +90,12 @@ static void places(void) {
         {6, {1, 0x80, 0x80, 0x80, 0x80, 0}, 5, "a key of five bytes not in shortest form"},
         {5, {4, 1, 0x83, 0, 1}, 3, "a kind not in shortest form"},
         {2, {0x81, 0}, 1, "an operation not in shortest form"},
-        {4, {2, 10, 6, 10}, 2, "an unknown operation"},
+        {3, {2, 10, 6}, 3, "cut short before the key to be at or above"},
+        {5, {6, 0x80, 0x80, 0x80, 0x80}, 5, "cut short in it"},
+        {4, {2, 10, 7, 10}, 4, "cut short before the last key of a span"},
+        {5, {8, 10, 0x94, 0, 1}, 3, "the last key of a span not in shortest form"},
+        {8, {7, 10, 0xFF, 0xFF, 0xFF, 0xFF, 0x10, 0}, 6, "the last key of a span is too large"},
+        {4, {2, 10, 9, 10}, 2, "an unknown operation"},
         {5, {2, 10, 0x82, 1, 0x80}, 2, "an unknown operation of two bytes"},
         {1, {0}, 0, "operation 0"},
     }, saved[] = {
@@ -167,14 +178,18 @@ static void excess_weight(void) {
     check(chromatic_report(pool, words, CHROMATIC_EXCESS_WEIGHT) == 0, "no excess weight is left");
 }
 
+/* A number in seven-bit groups: where it ends. */
+static uint8_t *put_number(uint8_t *to, uint32_t number) {
+    for (; number >= 0x80; number >>= 7) *to++ = CHROMATIC_AS(uint8_t, (number & 0x7F) | 0x80);
+    *to++ = CHROMATIC_AS(uint8_t, number);
+    return to;
+}
+
 /* Whether a key is in the set. */
 static int marked(uint32_t *pool, size_t words, uint32_t key) {
-    uint8_t batch[6] = {CHROMATIC_SEARCH};
+    uint8_t batch[CHROMATIC_COMMAND_BYTES] = {CHROMATIC_SEARCH}, *end = put_number(batch + 1, key);
     uint32_t answer[CHROMATIC_ANSWER_WORDS] = {0};
-    size_t count = 1;
-    for (; key >= 0x80; key >>= 7) batch[count++] = CHROMATIC_AS(uint8_t, (key & 0x7F) | 0x80);
-    batch[count++] = CHROMATIC_AS(uint8_t, key);
-    check(chromatic_batch(pool, words, batch, count, answer, CHROMATIC_ANSWER_WORDS) == 0, "search");
+    check(chromatic_batch(pool, words, batch, CHROMATIC_AS(size_t, end - batch), answer, CHROMATIC_ANSWER_WORDS) == 0, "search");
     return answer[0] == CHROMATIC_GOOD;
 }
 
@@ -204,6 +219,51 @@ static void a_pool_of_before(void) {
     pool[3] = 0;
     check(memcmp(pool, left, sizeof left) == 0, "the other words are those of before");
     check(chromatic_audit(one_key, sizeof one_key / sizeof one_key[0]) == CHROMATIC_GOOD, "a pool of before with one key");
+}
+
+/* One command over a span, or of operation 6 with the key `first`: its answer as one word. */
+static uint64_t over_span(uint32_t *pool, size_t words, int operation, uint32_t first, uint32_t last) {
+    uint8_t batch[CHROMATIC_COMMAND_BYTES], *end = put_number(batch, CHROMATIC_AS(uint32_t, operation));
+    uint32_t answer[CHROMATIC_ANSWER_WORDS] = {0};
+    end = put_number(end, first);
+    if (operation != CHROMATIC_AT_OR_ABOVE) end = put_number(end, last);
+    check(chromatic_batch(pool, words, batch, CHROMATIC_AS(size_t, end - batch), answer, CHROMATIC_ANSWER_WORDS) == 0, "a span");
+    return wrong_at(answer[0], answer[1]);
+}
+
+/* Who was told about notice 4,411: the marks of residents 7 and 12, between those of the notices beside it; and the last key of all. */
+static void spans(void) {
+    const uint32_t marks[] = {CHROMATIC_TEXT_KEY(4410, 8191, 7), CHROMATIC_TEXT_KEY(4411, 7, 1), CHROMATIC_TEXT_KEY(4411, 7, 2),
+                              CHROMATIC_TEXT_KEY(4411, 12, 1), CHROMATIC_TEXT_KEY(4412, 0, 1), UINT32_MAX};
+    const uint32_t first = CHROMATIC_TEXT_KEY(4411, 0, 0), last = CHROMATIC_TEXT_KEY(4411, 8191, 7);
+    uint32_t pool[CHROMATIC_POOL_WORDS(11)];
+    const size_t words = sizeof pool / sizeof pool[0], count = sizeof marks / sizeof marks[0];
+    uint32_t from = first;
+    size_t i;
+
+    check(chromatic_prepare(pool, words) == CHROMATIC_GOOD, "prepare for spans");
+    check(over_span(pool, words, CHROMATIC_AT_OR_ABOVE, 0, 0) == refused_with(CHROMATIC_KEY_ABSENT), "an empty pool has no next key");
+    check(over_span(pool, words, CHROMATIC_COUNT, 0, UINT32_MAX) == 0, "an empty pool has no keys");
+    check(over_span(pool, words, CHROMATIC_DELETE_SPAN, 0, UINT32_MAX) == 0, "an empty pool has none to delete");
+    for (i = 0; i < count; i++) {
+        uint8_t batch[6], *end = put_number(batch, CHROMATIC_INSERT);
+        uint32_t answer[CHROMATIC_ANSWER_WORDS] = {9, 0};
+        end = put_number(end, marks[i]);
+        check(chromatic_batch(pool, words, batch, CHROMATIC_AS(size_t, end - batch), answer, 2) == 0 && answer[0] == CHROMATIC_GOOD, "a mark");
+    }
+    check(over_span(pool, words, CHROMATIC_COUNT, first, last) == 3, "three texts about the notice");
+    for (i = 1; i <= 4; i++) {
+        check(over_span(pool, words, CHROMATIC_AT_OR_ABOVE, from, 0) == marks[i], "the next mark");
+        from = marks[i] + 1;
+    }
+    check(over_span(pool, words, CHROMATIC_AT_OR_ABOVE, UINT32_MAX, 0) == UINT32_MAX, "the last key of all");
+    check(over_span(pool, words, CHROMATIC_COUNT, last, first) == 0, "the first above the last");
+    check(over_span(pool, words, CHROMATIC_DELETE_SPAN, last, first) == 0, "and none goes");
+    check(over_span(pool, words, CHROMATIC_DELETE_SPAN, first, last) == 3, "its marks go");
+    check(over_span(pool, words, CHROMATIC_COUNT, 0, UINT32_MAX) == 3, "and no other");
+    check(over_span(pool, words, CHROMATIC_DELETE_SPAN, UINT32_MAX, UINT32_MAX) == 1, "the last key of all goes");
+    check(over_span(pool, words, CHROMATIC_AT_OR_ABOVE, marks[4] + 1, 0) == refused_with(CHROMATIC_KEY_ABSENT), "nothing lies above");
+    check(chromatic_audit(pool, words) == CHROMATIC_GOOD, "audit after spans");
 }
 
 /* 7 slots hold 4 marks: three texts of a limit of 3, a fourth one's mark, and then there is no room. */
@@ -272,12 +332,13 @@ int main(void) {
     over_a_restart(pool, words);
     excess_weight();
     a_pool_of_before();
+    spans();
     send_limit();
     refused = chromatic_batch(pool, words, batch, sizeof batch - 1, answers, 0);
     check(CHROMATIC_CODE(refused) == CHROMATIC_BAD_COMMAND && CHROMATIC_NUMBER(refused) == 13, "bad command");
     refused = chromatic_batch(pool, words, batch, sizeof batch, answers, room - 1);
     check(refused == refused_with(CHROMATIC_FEW_ANSWERS), "few answers");
-    check(chromatic_interface_6() == CHROMATIC_INTERFACE, "the interface's number");
+    check(chromatic_interface_7() == CHROMATIC_INTERFACE, "the interface's number");
     check(chromatic_batch(pool, words, two_hundred, sizeof two_hundred, answers, room) == 0 && answers[0] == CHROMATIC_KEY_ABSENT, "200 in two bytes");
 
     check(chromatic_batch(pool, words, NOTHING, 0, NOTHING, 0) == 0, "an empty batch at NULL");

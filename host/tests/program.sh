@@ -282,7 +282,7 @@ alone_help() {
         alone_run "$without" - "$repo/marks" "$word"
         [ "$status" = 0 ] && [ ! -s "$alone/said" ] || return 1
         diff "$root/host/tests/program/help.expected" "$alone/out" || { echo "the help is another: see that it is true, and store it"; return 1; }
-        for part in usage: 4,096 256 'seven-bit' '1 search' '2 insert' '3 delete' '4 step' '5 settle' '64 keys' 'printf ' docs/RULES.md docs/FORMATS.md Status; do
+        for part in usage: 4,096 256 'seven-bit' '1 search' '2 insert' '3 delete' '4 step' '5 settle' '6 at or above' '7 count' '8 delete span' '64 keys' 'printf ' docs/RULES.md docs/FORMATS.md Status; do
             grep -qF -e "$part" "$alone/out" || { echo "$word lacks: $part"; return 1; }
         done
         for code in 0 1 2 3 4 5 6 7 8 9 10 11 12; do

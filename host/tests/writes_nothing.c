@@ -1,5 +1,5 @@
-/* These calls write no pool word: searches, refused commands, a settle with nothing to do, a save, a clearing that finds no mark, and calls
- * refused whole, which write no answer word and no output byte either. The pool (and there the answers or the output) lie in a page that may only be read, and a write
+/* These calls write no pool word: searches, the next key, counts, refused commands, a settle with nothing to do, a delete of a span that has no
+ * key, a save, a clearing that finds no mark, and calls refused whole, which write no answer word and no output byte either. The pool (and there the answers or the output) lie in a page that may only be read, and a write
  * would end the test by a signal. Of the header an accepted step, or a settle, writes the fourth word, L, alone, and that only where L moves: the words
  * before it, or all four, lie in such a page. */
 #define _DEFAULT_SOURCE
@@ -154,9 +154,12 @@ int main(void) {
     uint8_t *out = mmap(NULL, 2 * page, PROT_READ | PROT_WRITE, MAP_PRIVATE | MAP_ANONYMOUS, -1, 0);
     const uint8_t filling[] = {CHROMATIC_INSERT, 10, CHROMATIC_INSERT, 20, CHROMATIC_INSERT, 30, CHROMATIC_INSERT, 40, CHROMATIC_SETTLE, 99};
     const uint8_t asking[] = {CHROMATIC_SEARCH, 10, CHROMATIC_SEARCH, 15, CHROMATIC_INSERT, 10, CHROMATIC_INSERT, 15, CHROMATIC_DELETE, 15,
-                              CHROMATIC_STEP, 0, 1, CHROMATIC_STEP, 1, 9, CHROMATIC_STEP, 1, 1, CHROMATIC_SETTLE, 9};
+                              CHROMATIC_STEP, 0, 1, CHROMATIC_STEP, 1, 9, CHROMATIC_STEP, 1, 1, CHROMATIC_SETTLE, 9,
+                              CHROMATIC_AT_OR_ABOVE, 15, CHROMATIC_AT_OR_ABOVE, 41, CHROMATIC_COUNT, 10, 30, CHROMATIC_COUNT, 30, 10,
+                              CHROMATIC_DELETE_SPAN, 11, 19, CHROMATIC_DELETE_SPAN, 30, 10};
     const uint32_t codes[] = {CHROMATIC_GOOD, CHROMATIC_KEY_ABSENT, CHROMATIC_KEY_PRESENT, CHROMATIC_NO_ROOM, CHROMATIC_KEY_ABSENT,
-                              CHROMATIC_NO_INNER_NODE, CHROMATIC_NO_KIND, CHROMATIC_CONDITION_FALSE, CHROMATIC_GOOD};
+                              CHROMATIC_NO_INNER_NODE, CHROMATIC_NO_KIND, CHROMATIC_CONDITION_FALSE, CHROMATIC_GOOD,
+                              CHROMATIC_GOOD, CHROMATIC_KEY_ABSENT, CHROMATIC_GOOD, CHROMATIC_GOOD, CHROMATIC_GOOD, CHROMATIC_GOOD};
     const size_t asked = sizeof codes / sizeof codes[0], room = asked * CHROMATIC_ANSWER_WORDS;
 
     if (pool == MAP_FAILED || answers == MAP_FAILED || out == MAP_FAILED) {

@@ -9,9 +9,10 @@ use Rattle.tree.specs.Codes.{codeOf, numberOf}
 use Rattle.format.specs.declared.Header.{Header}
 use Rattle.format.specs.Performing.{Written, written}
 use Rattle.encoding.specs.declared.Operation.{Operation}
-use Rattle.encoding.specs.declared.Operation.the-variants.{Search, Insert, Delete, Step, Settle}
+use Rattle.encoding.specs.declared.Operation.the-variants.{Search, Insert, Delete, Step, Settle, AtOrAbove, Count, DeleteSpan}
 use Rattle.encoding.specs.declared.Command.{Command}
 use Rattle.updates.specs.Updating.{searchUnder, insertUnder, deleteUnder}
+use Rattle.spans.specs.Spanning.{atOrAbove, countUnder, deleteSpanUnder}
 use Rattle.steps.specs.Steps.{stepUnder, settleUnder}
 
 unfoldable pub operated : Operation → ℕ → ℕ → List ℕ → Header → Written
@@ -20,6 +21,9 @@ operated Insert a b p h = insertUnder p h a
 operated Delete a b p h = deleteUnder p h a
 operated Step a b p h = stepUnder p h a b
 operated Settle a b p h = settleUnder p h a
+operated AtOrAbove a b p h = written p (atOrAbove p (h .root) a) h
+operated Count a b p h = written p (countUnder p (h .root) a b) h
+operated DeleteSpan a b p h = deleteSpanUnder p h a b
 
 unfoldable pub performOn : Command → List ℕ → Header → Written
 performOn c p h = operated (c .operation) (c .first) (c .second) p h

@@ -12,6 +12,9 @@ use slots::get_header;
 use slots::length_good;
 use slots::put_header;
 use slots::put_word;
+use spans::at_or_above;
+use spans::count_under;
+use spans::delete_span_under;
 use steps::settle_under;
 use steps::step_under;
 use tree::Answer;
@@ -43,6 +46,15 @@ fn perform(pool: &mut [u32], h: Header, c: Command) -> Performed
         Operation::Delete => delete_under(pool, h, c.first),
         Operation::Step => step_under(pool, h, c.first, c.second),
         Operation::Settle => settle_under(pool, h, c.first),
+        Operation::AtOrAbove => Performed {
+            answer: at_or_above(pool, h.root, c.first),
+            header: h,
+        },
+        Operation::Count => Performed {
+            answer: count_under(pool, h.root, c.first, c.second),
+            header: h,
+        },
+        Operation::DeleteSpan => delete_span_under(pool, h, c.first, c.second),
     }
 }
 

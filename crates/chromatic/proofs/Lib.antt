@@ -4,5 +4,6 @@ pub mod Places
 pub mod Excess
 pub mod Levels
 pub mod SixWords
+pub mod Spans
 pub mod Sends
 pub mod Decides

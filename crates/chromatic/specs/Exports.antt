@@ -24,6 +24,6 @@ returned k = inOneWord (k .code) (k .number)
 unfoldable pub returnedAnswer : Answer → ℕ
 returnedAnswer a = inOneWord (codeOf a) (numberOf a)
 
--- RULES 10.4: the number that the name of `chromatic_interface_6` carries (docs/INTERFACE.md).
+-- RULES 10.4: the number that the name of `chromatic_interface_7` carries (docs/INTERFACE.md).
 abbrev pub interfaceNumber : ℕ
-interfaceNumber = 6
+interfaceNumber = 7

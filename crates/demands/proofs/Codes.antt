@@ -68,6 +68,10 @@ module _ (p bytes out : List ℕ) (words : Words32 p) (b : Bytes bytes) (given :
     sound : Sound (runAll before (stateOf p))
     sound = run-sound before (stateOf p) (small .0) (call-ran g bytes out b given read .sound)
 
+    -- the State of the pool that the commands before left
+    pub state-before : stateOf (poolAfter before p) ≡ runAll before (stateOf p)
+    state-before = after-state before p sound
+
     sound-after : Sound (runAll (before ++ (c ∷ [])) (stateOf p))
     unfolding runAll AllSmall
     sound-after = rw (run-append before (c ∷ []) (stateOf p)) (perform-sound c (runAll before (stateOf p)) (small .1 .0) sound)

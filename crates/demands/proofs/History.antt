@@ -5,8 +5,9 @@
 -- those (`history-search`), and so does a search command anywhere in a further call (`search-tells`). From any pool that passes the audit
 -- it has these, and of the keys that were there those not since deleted with code 0 (`history-from`, `history-from-keys`, and so on).
 -- Restarts may come between the calls: they move no key.
--- Why: an insert with code 0 adds its key and no other, a delete with code 0 takes its key and no other (crate tree), a yes and a clearing
--- do so with marks (crate ledger), and nothing else moves a key; so after each entry the set is what the log tells. Assumes nothing.
+-- Why: an insert with code 0 adds its key and no other, a delete with code 0 takes its key and no other, a delete of a span those within it and no
+-- other (crate tree), a yes and a clearing do so with marks (crate ledger), and nothing else moves a key; so after each entry the set is what the log
+-- tells. Assumes nothing.
 use mathlib.Core.Path.{_≡_, refl, ap, sym, _∙_}
 use mathlib.Core.Logic.{_↔_, _≢_, inl, inr}
 use mathlib.Core.Bool.{Bool, true, false, false≢true, and-false}
@@ -20,11 +21,13 @@ use Rattle.tree.specs.Codes.{codeOf, numberOf}
 use Rattle.tree.specs.Tree.{countIn}
 use Rattle.tree.specs.State.{State, isIn, Sound, Outcome, search, step}
 use Rattle.tree.specs.Settle.{settle}
+use Rattle.tree.specs.Spans.{nextFrom, keysFrom, countSpan, deleteSpan}
 use Rattle.tree.proofs.Tests.{same-or-not, one-same, one-other}
 use Rattle.tree.proofs.Updated.{search-kept, search-codes as search-codes-state, InsertSays, present, no-room, added, insert-says, DeleteSays, absent, removed, delete-says}
 use Rattle.tree.proofs.StepState.{step-keeps-keys}
+use Rattle.tree.proofs.SpanStates.{span-members, span-none}
 use Rattle.encoding.specs.declared.Operation.{Operation}
-use Rattle.encoding.specs.declared.Operation.the-variants.{Search, Insert, Delete, Step, Settle}
+use Rattle.encoding.specs.declared.Operation.the-variants.{Search, Insert, Delete, Step, Settle, AtOrAbove, Count, DeleteSpan}
 use Rattle.encoding.specs.declared.Command.{Command}
 use Rattle.encoding.specs.Numbers.{Bytes}
 use Rattle.encoding.specs.Operations.{operationNumber}
@@ -45,45 +48,65 @@ use Rattle.set.proofs.Members.{member-shown}
 use Rattle.set.proofs.Passing.{passing-state}
 use Rattle.set.proofs.Promises.{passing-words, more-here, more-elsewhere, nodes-exact, empty-says, prepare-passing, prepare-says, search-codes}
 use Rattle.demands.specs.Calls.{Entry, of-ledger, entries, logOf, Calls, no-call, then-call, then-restart, then-send, then-clear, isMark, puts, takes, tells, toldFrom, told, InsertedSince, KeptOrInserted, SearchTells}
-use Rattle.demands.proofs.Told.{tells-kept, tells-put, tells-taken, other-operation, other-key, other-code, tells-insert, tells-delete, is-mark, told-append, told-from-exactly, told-exactly}
+use Rattle.demands.proofs.Told.{tells-kept, tells-put, tells-taken, other-operation, other-key, other-code, tells-insert, tells-delete, tells-span, tells-empty-span, is-mark, told-append, told-from-exactly, told-exactly}
 use Rattle.demands.proofs.Runs.{entry, entriesOf}
 use Rattle.demands.proofs.Called.{Result, call-kept, call-did, call-result, call-ran, calls-passing}
 use Rattle.demands.proofs.Ends.{command-words}
 use Rattle.demands.proofs.Restarting.{restart-keys}
 
+-- no insert, no delete and no delete of a span
+abbrev Other : Operation → Type 0
+Other o =
+    (operationNumber o ≢ operationNumber Insert) × (operationNumber o ≢ operationNumber Delete) × (operationNumber o ≢ operationNumber DeleteSpan)
+
 -- One command: what is in the set after it is what its entry tells.
 module _ (x : ℕ) (c : Command) (S : State) (sound : Sound S) where
+  no-span : {o : Operation} → c .operation ≡ o → operationNumber o ≢ operationNumber DeleteSpan
+      → operationNumber (c .operation) ≢ operationNumber DeleteSpan
+  no-span e d z = d (sym (ap operationNumber e) ∙ z)
+
   insert-told : {o : Outcome} → c .operation ≡ Insert → InsertSays (c .first) S o → isIn x (o .after) ≡ tells x (entry c (o .answer)) (isIn x S)
   insert-told op (present i) = sym (other-code x c _ _ (isIn x S) (λ z. omega arith))
   insert-told op (no-room i h) = sym (other-code x c _ _ (isIn x S) (λ z. omega arith))
   insert-told op (added {s} i h k f) = same-or-not (c .first) x
       (λ e. let z : isIn x S ≡ 0 = rw e at i in omega (arith, k x, one-same x (c .first) (sym e), tells-insert x c 0 s (isIn x S) op e refl))
-      (λ n. omega (arith, k x, one-other x (c .first) (λ e. n (sym e)), other-key x c 0 s (isIn x S) n))
+      (λ n. omega (arith, k x, one-other x (c .first) (λ e. n (sym e)), other-key x c 0 s (isIn x S) (no-span op (λ z. omega arith)) n))
 
   delete-told : {o : Outcome} → c .operation ≡ Delete → DeleteSays (c .first) S o → isIn x (o .after) ≡ tells x (entry c (o .answer)) (isIn x S)
   delete-told op (absent i) = sym (other-code x c _ _ (isIn x S) (λ z. omega arith))
   delete-told op (removed {n = m} i l k) = same-or-not (c .first) x
       (λ e. let z : isIn x S ≡ 1 = rw e at i in omega (arith, k x, one-same x (c .first) (sym e), tells-delete x c 0 m (isIn x S) op e refl))
-      (λ n. omega (arith, k x, one-other x (c .first) (λ e. n (sym e)), other-key x c 0 m (isIn x S) n))
+      (λ n. omega (arith, k x, one-other x (c .first) (λ e. n (sym e)), other-key x c 0 m (isIn x S) (no-span op (λ z. omega arith)) n))
+
+  span-told : c .operation ≡ DeleteSpan
+      → isIn x ((deleteSpan (c .first) (c .second) S) .after) ≡ tells x (entry c ((deleteSpan (c .first) (c .second) S) .answer)) (isIn x S)
+  unfolding deleteSpan
+  span-told op =
+      let number = length (keysFrom (c .first) (c .second) S) in
+      same-or-not number 0
+      (λ z. ap (isIn x) (span-none (c .first) (c .second) S z) ∙ sym (tells-empty-span x c 0 number (isIn x S) op refl z))
+      (λ d. span-members x (c .first) (c .second) S sound ∙ sym (tells-span x c 0 number (isIn x S) op refl d))
 
   perform-told : isIn x ((perform c S) .after) ≡ tells x (entry c ((perform c S) .answer)) (isIn x S)
-  unfolding perform operation
+  unfolding perform operation nextFrom countSpan
   perform-told = go (c .operation) refl
     where
-      -- search, step and settle move no key
-      same : (o : Operation) → c .operation ≡ o → operationNumber o ≢ operationNumber Insert → operationNumber o ≢ operationNumber Delete → (a : Answer) {n : ℕ}
-          → n ≡ isIn x S → n ≡ tells x (entry c a) (isIn x S)
-      same o e f g a h =
+      -- such a command moves no key
+      same : (o : Operation) → c .operation ≡ o → Other o → (a : Answer) {n : ℕ} → n ≡ isIn x S → n ≡ tells x (entry c a) (isIn x S)
+      same o e f a h =
           let number = ap operationNumber e in
-          h ∙ sym (other-operation x c _ _ (isIn x S) (λ z. f (sym number ∙ z)) (λ z. g (sym number ∙ z)))
+          h ∙ sym (other-operation x c _ _ (isIn x S) (λ z. f .0 (sym number ∙ z)) (λ z. f .1 (sym number ∙ z)) (λ z. f .2 (sym number ∙ z)))
 
       go : (o : Operation) → c .operation ≡ o
           → isIn x ((operation o (c .first) (c .second) S) .after) ≡ tells x (entry c ((operation o (c .first) (c .second) S) .answer)) (isIn x S)
-      go Search e = same Search e (λ z. omega arith) (λ z. omega arith) ((search (c .first) S) .answer) (ap (isIn x) (search-kept (c .first) S sound))
+      go Search e = same Search e (omega arith) ((search (c .first) S) .answer) (ap (isIn x) (search-kept (c .first) S sound))
       go Insert e = insert-told e (insert-says (c .first) S sound)
       go Delete e = delete-told e (delete-says (c .first) S sound)
-      go Step e = same Step e (λ z. omega arith) (λ z. omega arith) ((step (c .first) (c .second) S) .answer) (ap (countIn x) (step-keeps-keys (c .first) (c .second) S sound))
-      go Settle e = same Settle e (λ z. omega arith) (λ z. omega arith) ((settle (c .first) S) .answer) (ap (countIn x) (settle-keeps-keys S (c .first) sound))
+      go Step e = same Step e (omega arith) ((step (c .first) (c .second) S) .answer) (ap (countIn x) (step-keeps-keys (c .first) (c .second) S sound))
+      go Settle e = same Settle e (omega arith) ((settle (c .first) S) .answer) (ap (countIn x) (settle-keeps-keys S (c .first) sound))
+      go AtOrAbove e = same AtOrAbove e (omega arith) ((nextFrom (c .first) S) .answer) refl
+      go Count e = same Count e (omega arith) ((countSpan (c .first) (c .second) S) .answer) refl
+      go DeleteSpan e = span-told e
 
 -- a search command searches
 searches : (c : Command) (S : State) → c .operation ≡ Search → (perform c S) .answer ≡ (search (c .first) S) .answer

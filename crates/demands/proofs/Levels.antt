@@ -1,8 +1,8 @@
 -- 02 (v) over whole sequences: "Keep L in the fourth header word, true after every prepare, insert, delete, step, settle and read back." From a
--- pool that passes the audit, after any calls in any order, refused ones among them (batches, whose commands insert, delete, step and settle,
--- restarts, may send and clearing), the fourth word is L of the tree that the words show (`level-after-calls`), each leaf's sum of weights is
--- that word (`leaf-sums-after-calls`), and it is the report's second number (`level-reported-after-calls`). A pool that is prepared passes the
--- audit (set's Promises.antt: `prepare-passing`).
+-- pool that passes the audit, after any calls in any order, refused ones among them (batches, whose commands insert, delete a key or a span, step
+-- and settle, restarts, may send and clearing), the fourth word is L of the tree that the words show (`level-after-calls`), each leaf's sum of
+-- weights is that word (`leaf-sums-after-calls`), and it is the report's second number (`level-reported-after-calls`). A pool that is prepared
+-- passes the audit (set's Promises.antt: `prepare-passing`).
 -- Why: such a pool passes the audit after every call (`calls-passing`), and the audit takes no other word there. Assumes nothing.
 use mathlib.Core.Path.{_≡_}
 use mathlib.Core.List.{List, List·Memᴰ}

@@ -4,6 +4,7 @@ pub mod Called
 pub mod Levels
 pub mod Ends
 pub mod Codes
+pub mod SpanCalls
 pub mod Striking
 pub mod Told
 pub mod History

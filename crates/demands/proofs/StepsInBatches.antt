@@ -1,8 +1,8 @@
--- Demand 3 through batch. Over any number of calls with no update among them, that is no accepted insert or delete command, no yes of may
--- send and no clearing by which a mark went, the accepted steps, that is the step commands answered with code 0 and the steps that settle
--- commands report, are at most the report's seventh number of the first pool (`steps-in-batches`, `steps-at-most`).
--- Why: an accepted step lowers that number, a settle lowers it by its steps or more, and a search, a refused command or call, or a clearing
--- that finds no mark leaves the pool as it was. Of keys nothing is said here. Assumes nothing.
+-- Demand 3 through batch. Over any number of calls with no update among them, that is no accepted insert or delete command, no delete of a span by
+-- which a key went, no yes of may send and no clearing by which a mark went, the accepted steps, that is the step commands answered with code 0 and
+-- the steps that settle commands report, are at most the report's seventh number of the first pool (`steps-in-batches`, `steps-at-most`).
+-- Why: an accepted step lowers that number, a settle lowers it by its steps or more, and a search, a next key, a count, a refused command or call, a
+-- delete of a span or a clearing that finds nothing leaves the pool as it was. Of keys nothing is said here. Assumes nothing.
 use mathlib.Core.Path.{_≡_, refl, ap}
 use mathlib.Core.Logic.{_≢_}
 use mathlib.Core.Bool.{Bool, true, false}
@@ -18,12 +18,14 @@ use Rattle.tree.proofs.KindNumbers.{refusal-some}
 use Rattle.tree.proofs.Tests.{same-or-not}
 use Rattle.tree.specs.State.{State, Sound, Outcome, search, insert, delete, step}
 use Rattle.tree.specs.Settle.{settle}
+use Rattle.tree.specs.Spans.{nextFrom, countSpan, deleteSpan}
 use Rattle.tree.proofs.Updated.{search-kept, insert-kept, delete-kept}
 use Rattle.tree.proofs.StepState.{StepCase, refused as step-refused, taken as step-taken, stepping}
 use Rattle.tree.proofs.Demand3.{boundOf, accepted-falls}
+use Rattle.tree.proofs.SpanStates.{span-none}
 use Rattle.tree.proofs.SettleAnswers.{settle-state-falls}
 use Rattle.encoding.specs.declared.Operation.{Operation}
-use Rattle.encoding.specs.declared.Operation.the-variants.{Search, Insert, Delete, Step, Settle}
+use Rattle.encoding.specs.declared.Operation.the-variants.{Search, Insert, Delete, Step, Settle, AtOrAbove, Count, DeleteSpan}
 use Rattle.encoding.specs.declared.Command.{Command}
 use Rattle.encoding.specs.Numbers.{Bytes}
 use Rattle.format.specs.Audit.{stateOf}
@@ -82,7 +84,7 @@ module _ (c : Command) (S : State) (sound : Sound S) where
       omega (arith, steps-one c (Done (kindNumber k)) op)
 
   perform-falls : NoUpdate (entry c ((perform c S) .answer)) → Falls (perform c S)
-  unfolding perform operation stepsOf isOf NoUpdate
+  unfolding perform operation nextFrom countSpan deleteSpan stepsOf isOf NoUpdate
   perform-falls u = go (c .operation) refl u
     where
       go : (o : Operation) → c .operation ≡ o → NoUpdate (entry c ((operation o (c .first) (c .second) S) .answer)) → Falls (operation o (c .first) (c .second) S)
@@ -91,6 +93,9 @@ module _ (c : Command) (S : State) (sound : Sound S) where
       go Delete e u = falls-kept (delete (c .first) S) (rw e) (delete-kept (c .first) S sound (λ z. u (omega arith) .1 e))
       go Step e u = step-falls e (stepping (c .first) (c .second) S) refl
       go Settle e u = omega (arith, steps-settle c ((settle (c .first) S) .answer) e, settle-state-falls S (c .first) sound)
+      go AtOrAbove e u = falls-kept (nextFrom (c .first) S) (rw e) refl
+      go Count e u = falls-kept (countSpan (c .first) (c .second) S) (rw e) refl
+      go DeleteSpan e u = falls-kept (deleteSpan (c .first) (c .second) S) (rw e) (span-none (c .first) (c .second) S (u refl .2 e))
 
 -- All commands of a call, and any number of calls.
 pub run-falls : (cs : List Command) (S : State) → AllSmall cs → Sound S → NoUpdates (entriesOf cs S) → stepsIn (entriesOf cs S) + boundOf (runAll cs S) ≤ boundOf S

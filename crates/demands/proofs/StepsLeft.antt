@@ -1,7 +1,7 @@
 -- Demand 3's last sentence through batch. "Until the tree is red-black some step is accepted": a pool that passes the audit and is not
 -- red-black has batch bytes whose step command answers 0 (`step-answers`). "Once it is, none": from a red-black one, through any calls
--- with no update among them, no step command of a further call answers 0, if no insert or delete before it in that call was accepted
--- (`no-step-answers`).
+-- with no update among them, no step command of a further call answers 0, if no insert or delete before it in that call was accepted and no
+-- delete of a span there took a key (`no-step-answers`).
 -- Why: the first is crate set's `some-accepted` written as bytes; for the second, the report's seventh number of a red-black pool is 0,
 -- never rises without an update, and an accepted step would lower it. Assumes nothing.
 use mathlib.Core.Path.{_≡_, refl, ap, sym, _∙_}

@@ -1,8 +1,8 @@
 -- No more than the allowed number of texts, over the sequences of all calls. Between the calls of the send limit, of any notices, residents and
--- limits, there may stand batch calls with searches, steps, settles, inserts and deletes of other keys, refused calls, and restarts. From any pool
--- that passes the audit the yes answers to a notice and resident since that notice was last cleared are at most m, if each of those was given
--- under a limit of at most m (`texts-in-calls`); with one limit and no clearing all of them are at most that limit (`yes-at-most`), and so from an empty
--- set (`texts-from-empty`).
+-- limits, there may stand batch calls with searches, steps, settles, inserts, next keys, counts, and deletes of other keys and of spans without a mark
+-- of theirs, refused calls, and restarts. From any pool that passes the audit the yes answers to a notice and resident since that notice was last
+-- cleared are at most m, if each of those was given under a limit of at most m (`texts-in-calls`); with one limit and no clearing all of them are at
+-- most that limit (`yes-at-most`), and so from an empty set (`texts-from-empty`).
 -- Why: such calls are a sequence as crate ledger has them (`calls-sending`): what stands between leaves a pool that passes, and takes none of the
 -- marks, since what the log tells of a key stays as long as nothing takes it. Assumes nothing.
 use mathlib.Core.Path.{_≡_, refl, ap, _∙_}

@@ -3,13 +3,15 @@
 -- with code 0" (`told-from-exactly`), where a clearing deletes the marks that crate ledger says (`is-mark`). Assumes nothing.
 use mathlib.Core.Path.{_≡_, refl, ap, sym, _∙_}
 use mathlib.Core.Logic.{_≢_, _↔_, inl, inr}
-use mathlib.Core.Bool.{Bool, true, false, and-false}
+use mathlib.Core.Bool.{Bool, true, false, not, _&&_, and-true, and-false}
 use mathlib.Core.List.{List, [], _∷_, _++_}
+use lib.Dec.{eqb}
 use borrow.Author.Tests.{eq-eqb, ne-eqb, eqb-false, leb-true, le-leb, not-true}
 use native.Mathlib.Omega.{arith}
 use Prim.Native.Nat.{ℕ}
+use Rattle.tree.specs.Spans.{within}
 use Rattle.tree.proofs.Tests.{three-true}
-use Rattle.encoding.specs.declared.Operation.the-variants.{Insert, Delete}
+use Rattle.encoding.specs.declared.Operation.the-variants.{Insert, Delete, DeleteSpan}
 use Rattle.encoding.specs.declared.Command.{Command}
 use Rattle.encoding.specs.Operations.{operationNumber}
 use Rattle.ledger.specs.Ledger.{mostResident, mostAttempts, markKey}
@@ -34,13 +36,14 @@ module _ (x : ℕ) (e : Entry) (before : ℕ) where
 -- The same of a command's entry.
 module _ (x : ℕ) (c : Command) (code number before : ℕ) where
   pub other-operation : operationNumber (c .operation) ≢ operationNumber Insert → operationNumber (c .operation) ≢ operationNumber Delete
-      → tells x (of-command c code number) before ≡ before
+      → operationNumber (c .operation) ≢ operationNumber DeleteSpan → tells x (of-command c code number) before ≡ before
   unfolding puts takes isOf
-  other-operation f g = tells-kept x (of-command c code number) before (rw (ne-eqb _ _ f)) (rw (ne-eqb _ _ g))
+  other-operation f g h = tells-kept x (of-command c code number) before (rw (ne-eqb _ _ f)) (rw (ne-eqb _ _ g, ne-eqb _ _ h))
 
-  pub other-key : c .first ≢ x → tells x (of-command c code number) before ≡ before
-  unfolding puts takes
-  other-key f = tells-kept x (of-command c code number) before (rw (ne-eqb _ _ f, and-false)) (rw (ne-eqb _ _ f, and-false))
+  -- an insert or a delete of another key
+  pub other-key : operationNumber (c .operation) ≢ operationNumber DeleteSpan → c .first ≢ x → tells x (of-command c code number) before ≡ before
+  unfolding puts takes isOf
+  other-key d f = tells-kept x (of-command c code number) before (rw (ne-eqb _ _ f, and-false)) (rw (ne-eqb _ _ f, ne-eqb _ _ d, and-false))
 
   pub other-code : code ≢ 0 → tells x (of-command c code number) before ≡ before
   unfolding puts takes
@@ -53,6 +56,25 @@ module _ (x : ℕ) (c : Command) (code number before : ℕ) where
   pub tells-delete : c .operation ≡ Delete → c .first ≡ x → code ≡ 0 → tells x (of-command c code number) before ≡ 0
   unfolding puts takes isOf
   tells-delete o k z = tells-taken x (of-command c code number) before (rw o) (rw (o, eq-eqb _ _ k, eq-eqb _ _ z))
+
+  -- a delete of a span by which keys went takes what is within it, and one by which none went takes nothing
+  span-takes : c .operation ≡ DeleteSpan → code ≡ 0 → takes x (of-command c code number) ≡ (within (c .first) (c .second) x && not (eqb number 0))
+  unfolding takes isOf
+  span-takes o z = rw (o, eq-eqb _ _ z) (and-true (within (c .first) (c .second) x && not (eqb number 0)))
+
+  pub tells-span : c .operation ≡ DeleteSpan → code ≡ 0 → number ≢ 0
+      → tells x (of-command c code number) before ≡ elim (within (c .first) (c .second) x) [ true ↦ 0 | false ↦ before ]
+  unfolding puts isOf
+  tells-span o z n = go (within (c .first) (c .second) x) (span-takes o z ∙ rw (ne-eqb number 0 n) (and-true (within (c .first) (c .second) x)))
+    where
+      go : (b : Bool) → takes x (of-command c code number) ≡ b → tells x (of-command c code number) before ≡ elim b [ true ↦ 0 | false ↦ before ]
+      go true e = tells-taken x (of-command c code number) before (rw o) e
+      go false e = tells-kept x (of-command c code number) before (rw o) e
+
+  pub tells-empty-span : c .operation ≡ DeleteSpan → code ≡ 0 → number ≡ 0 → tells x (of-command c code number) before ≡ before
+  unfolding puts isOf
+  tells-empty-span o z e =
+      tells-kept x (of-command c code number) before (rw o) (span-takes o z ∙ rw (eq-eqb number 0 e) (and-false (within (c .first) (c .second) x)))
 
 -- The test for a notice's marks says what the send limit's page says.
 pub is-mark : (n x : ℕ) → (isMark n x ≡ true) ↔ IsMark n x

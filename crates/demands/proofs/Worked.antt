@@ -1,22 +1,27 @@
 -- The send limit worked by hand (docs/FORMATS.md, "The key of a mark"), in one table and one proof, which the checker computes: what the definitions
 -- give from a pool's words, and what the page says. A row of may send is its code, its number and the words that it leaves. Of a clearing the
--- first 160 of a notice's 65,536 keys are computed, which have all its marks here. Assumes nothing.
+-- first 160 of a notice's 65,536 keys are computed, which have all its marks here. And 02 (vii)'s delete of a span in the log of a batch call, in a
+-- second table: which keys the log tells to be in the set. Assumes nothing.
 use mathlib.Core.Path.{_≡_, refl}
 use mathlib.Core.Bool.{true, false, not, _&&_, _||_}
 use mathlib.Core.List.{List, [], _∷_, _++_}
 use lib.Dec.{eqb, leb, ltb}
-use lib.ListN.{length, getD, set}
+use lib.ListN.{length, getD, set, replicate}
 use Prim.Native.Nat.{ℕ}
 use Rattle.tree.specs.Codes.{codeOf, numberOf}
-use Rattle.tree.specs.Tree.{one, countIn, keys, slotOf, level}
-use Rattle.tree.specs.Updates.{newSlot}
-use Rattle.tree.specs.State.{upwards, prepared, keysOf, slotsNeeded, nodes, levelTop}
+use Rattle.tree.specs.Tree.{one, count, countIn, keys, slotOf, isLeaf, size, leaves, level}
+use Rattle.tree.specs.Updates.{reach, reachedSlot, reachedKey, insertAt, newSlot, movedTo, cut, deleteAt}
+use Rattle.tree.specs.State.{upwards, prepared, keysOf, slotsNeeded, nodes, levelTop, insertFirst, insertMore, insert, deleted, delete}
+use Rattle.tree.specs.Spans.{spanOf, deleteEach, deleteSpan}
 use Rattle.format.specs.Words.{header, slot, freeSlot, headerOf, putHeader, slotAt, putSlot, slotsIn, lengthGood, inTree, inChain, inTop, rootOf, shownSlot, shownHeader, slotsFrom, wordsOf}
 use Rattle.format.specs.Audit.{isSlot, follow, chain, chainEnds, treeFound, chainFound, slotsOf, bare, all, allFrom, same, rule-once, freeWords, rule-free, children, rule-children, leafKeys, routed, rule-order, wellWeighed, rootWeighed, rule-weights, sumsOf, rootSums, rule-sums, rule-level, rules, allTrue, rulesUnder, foundWeight, treeOf, topOf, stateUnder, audited}
 use Rattle.format.proofs.Rows.{pool, Row, row, allGiven, allSaid}
+use Rattle.encoding.specs.Numbers.{lastGroup, below, groups, number}
+use Rattle.encoding.specs.Batch.{lastArgument, onlyArgument, twoArguments, argumentsAt, meantAt, operationAt, commandAt, after, readFrom, readBatch, operation, perform, answersOf, runAll, answerWords, filled, called, refused, batchRead, batch}
 use Rattle.updates.specs.Updating.{toward, descend, wayTo, taken, freed, freedWords, byRoot, insertRoot, split, insertBeside, insertAtLeaf, insertUnder, insertWords, deleteRoot, siblingOf, joined, deleteBelow, deleteLeaf, deleteAtLeaf, deleteUnder, deleteWords}
 use Rattle.set.specs.Inside.{member, room, needed, auditAnswer}
 use Rattle.ledger.specs.Ledger.{noticeGood, argumentsGood, markKey, unless, rangeAnswer, judged, lowestFrom, usedAnswer, roomAnswer, marked, asked, maySend, clearedAt, clearedFrom}
+use Rattle.demands.specs.Calls.{Entry, entries, logRead, logOf, isOf, puts, takes, tells, toldFrom, told}
 
 -- notice 4411, resident 17, attempts 1 and 2; resident 18, attempt 1
 abbrev k1 : ℕ
@@ -70,3 +75,28 @@ cases =
 pub sends-worked : allGiven cases ≡ allSaid cases
 unfolding cases allGiven allSaid one countIn keys slotOf newSlot upwards prepared keysOf slotsNeeded nodes levelTop level headerOf putHeader slotAt putSlot slotsIn lengthGood inTree inChain inTop rootOf shownSlot shownHeader slotsFrom wordsOf isSlot follow chain chainEnds treeFound chainFound slotsOf bare all allFrom same rule-once freeWords rule-free children rule-children leafKeys routed rule-order wellWeighed rootWeighed rule-weights sumsOf rootSums rule-sums rule-level rules allTrue rulesUnder foundWeight treeOf topOf stateUnder audited toward descend wayTo taken freed freedWords byRoot insertRoot split insertBeside insertAtLeaf insertUnder insertWords deleteRoot siblingOf joined deleteBelow deleteLeaf deleteAtLeaf deleteUnder deleteWords member room needed auditAnswer noticeGood argumentsGood markKey unless rangeAnswer judged lowestFrom usedAnswer roomAnswer marked asked maySend clearedAt clearedFrom
 sends-worked = refl
+
+-- A batch call on nine slots without a key, with room for the answers of six commands: 10, 20, 30 and 40 are inserted, and `more` follows. What its
+-- log tells of these keys.
+abbrev log-of : List ℕ → List Entry
+log-of more = logOf (wordsOf (prepared 9)) (2 ∷ 10 ∷ 2 ∷ 20 ∷ 2 ∷ 30 ∷ 2 ∷ 40 ∷ more) (replicate 12 77)
+
+abbrev told-after : List ℕ → List ℕ
+told-after more = told 10 (log-of more) ∷ told 20 (log-of more) ∷ told 30 (log-of more) ∷ told 40 (log-of more) ∷ []
+
+unfoldable pub log-cases : List Row
+log-cases =
+    row (told-after []) (1 ∷ 1 ∷ 1 ∷ 1 ∷ [])
+    -- "8 15 35"; both ends are of the span, and it may have one key; "a above b" takes none
+    ∷ row (told-after (8 ∷ 15 ∷ 35 ∷ [])) (1 ∷ 0 ∷ 0 ∷ 1 ∷ [])
+    ∷ row (told-after (8 ∷ 20 ∷ 40 ∷ [])) (1 ∷ 0 ∷ 0 ∷ 0 ∷ [])
+    ∷ row (told-after (8 ∷ 20 ∷ 20 ∷ [])) (1 ∷ 0 ∷ 1 ∷ 1 ∷ [])
+    ∷ row (told-after (8 ∷ 35 ∷ 15 ∷ [])) (1 ∷ 1 ∷ 1 ∷ 1 ∷ [])
+    -- all, to the last key that there may be; and one of them inserted again
+    ∷ row (told-after (8 ∷ 0 ∷ 0xFF ∷ 0xFF ∷ 0xFF ∷ 0xFF ∷ 0x0F ∷ [])) (0 ∷ 0 ∷ 0 ∷ 0 ∷ [])
+    ∷ row (told-after (8 ∷ 15 ∷ 35 ∷ 2 ∷ 20 ∷ [])) (1 ∷ 1 ∷ 0 ∷ 1 ∷ [])
+    ∷ []
+
+pub spans-worked : allGiven log-cases ≡ allSaid log-cases
+unfolding log-cases allGiven allSaid headerOf slotAt slotsIn lengthGood inTree inChain inTop rootOf shownSlot shownHeader slotsFrom wordsOf isSlot follow chain chainEnds treeFound chainFound slotsOf bare all allFrom same rule-once freeWords rule-free children rule-children leafKeys routed rule-order wellWeighed rootWeighed rule-weights sumsOf rootSums rule-sums rule-level rules allTrue rulesUnder foundWeight treeOf topOf stateUnder audited lastGroup below groups number lastArgument onlyArgument twoArguments argumentsAt meantAt operationAt commandAt after readFrom readBatch operation perform answersOf runAll answerWords filled called refused batchRead batch slotOf isLeaf size leaves keys one count countIn level reach reachedSlot reachedKey insertAt newSlot movedTo cut deleteAt nodes upwards prepared keysOf insertFirst insertMore insert deleted delete levelTop spanOf deleteEach deleteSpan entries logRead logOf isOf puts takes tells toldFrom
+spans-worked = refl

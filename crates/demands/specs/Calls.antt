@@ -1,9 +1,9 @@
--- Sequences of batch calls, restarts and calls of the send limit, and their log (RULES 13, RULES 17.6): each command that ran, with the two answer
+-- Sequences of batch calls, restarts and calls of the send limit, and their log (RULES 13, RULES 17.6, RULES 18): each command that ran, with the two answer
 -- words that it got, and each call of the send limit, with its code and number. All of it can be seen from outside: bytes, arguments, answer
 -- words, codes. What the demands say of such sequences is proved in proofs/.
 use mathlib.Core.Path.{_≡_}
 use mathlib.Core.Logic.{_≢_, _↔_, _⊎_}
-use mathlib.Core.Bool.{Bool, true, false, not, _&&_}
+use mathlib.Core.Bool.{Bool, true, false, not, _&&_, _||_}
 use mathlib.Core.List.{List, [], _∷_, _++_}
 use lib.Dec.{eqb, leb}
 use lib.ListN.{getD, take, drop}
@@ -11,8 +11,9 @@ use Prim.Native.Nat.{ℕ, _+_}
 use Rattle.tree.specs.declared.Refusal.the-variants.{KeyAbsent}
 use Rattle.tree.specs.declared.Answer.the-variants.{Done}
 use Rattle.tree.specs.Codes.{code}
+use Rattle.tree.specs.Spans.{within}
 use Rattle.encoding.specs.declared.Operation.{Operation}
-use Rattle.encoding.specs.declared.Operation.the-variants.{Insert, Delete, Step, Settle}
+use Rattle.encoding.specs.declared.Operation.the-variants.{Insert, Delete, Step, Settle, DeleteSpan}
 use Rattle.encoding.specs.declared.Command.{Command}
 use Rattle.encoding.specs.Numbers.{Bytes}
 use Rattle.encoding.specs.Operations.{operationNumber}
@@ -75,9 +76,9 @@ puts x (of-command c code number) = isOf Insert c && eqb (c .first) x && eqb cod
 puts x (of-ledger (send-call n r l code a)) = eqb (markKey n r a) x && eqb code 0
 puts x (of-ledger (clear-call n code count)) = false
 
--- .. and one that takes it out: a delete of it, or a clearing of its notice.
+-- .. and one that takes it out: a delete of it, by 02 (vii) (RULES 18.6) a delete of a span with it by which keys went, or a clearing of its notice.
 unfoldable pub takes : ℕ → Entry → Bool
-takes x (of-command c code number) = isOf Delete c && eqb (c .first) x && eqb code 0
+takes x (of-command c code number) = (isOf Delete c && eqb (c .first) x || isOf DeleteSpan c && within (c .first) (c .second) x && not (eqb number 0)) && eqb code 0
 takes x (of-ledger (send-call n r l code a)) = false
 takes x (of-ledger (clear-call n code count)) = isMark n x && eqb code 0
 
@@ -126,9 +127,10 @@ unfoldable pub stepsIn : List Entry → ℕ
 stepsIn [] = 0
 stepsIn (e ∷ log) = stepsOf e + stepsIn log
 
--- none of the accepted ones that change the set: no insert and no delete, no yes, and no clearing by which a mark went
+-- none of the accepted ones that change the set: no insert and no delete, no delete of a span by which a key went, no yes, and no clearing by which
+-- a mark went
 unfoldable pub NoUpdate : Entry → Type 0
-NoUpdate (of-command c code number) = code ≡ 0 → (c .operation ≢ Insert) × (c .operation ≢ Delete)
+NoUpdate (of-command c code number) = code ≡ 0 → (c .operation ≢ Insert) × (c .operation ≢ Delete) × (c .operation ≡ DeleteSpan → number ≡ 0)
 NoUpdate (of-ledger (send-call n r l code a)) = code ≢ 0
 NoUpdate (of-ledger (clear-call n code count)) = code ≡ 0 → count ≡ 0
 

@@ -17,7 +17,8 @@ ledgerCalls [] = []
 ledgerCalls (of-command c code number ∷ log) = ledgerCalls log
 ledgerCalls (of-ledger call ∷ log) = call ∷ ledgerCalls log
 
--- No command takes a mark of notice n and resident r. (A clearing may: it starts the count afresh.)
+-- No command takes a mark of notice n and resident r: no delete of one, and no delete of a span by which keys went and in which one lies. (A clearing
+-- may: it starts the count afresh.)
 unfoldable pub NoMarkDeleted : (n r : ℕ) → List Entry → Type 0
 NoMarkDeleted n r [] = Unit {0}
 NoMarkDeleted n r (of-command c code number ∷ log) =

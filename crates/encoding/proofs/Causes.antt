@@ -20,21 +20,24 @@ use Rattle.tree.specs.declared.Answer.the-variants.{Done, Refused, Spent}
 use Rattle.tree.specs.Codes.{mostLevel, kindNumber, named, codeOf, numberOf}
 use Rattle.tree.specs.Tree.{Tree, leaf, node, slotOf, countIn, level, LeafIn}
 use Rattle.tree.specs.Kinds.{conditionAt, atLimit}
-use Rattle.tree.specs.State.{State, Top, empty, full, Sound, Outcome, keyEnd, keysOf, isIn, countTop, slotsNeeded, leafAt, noInner, search, insert, delete, step}
+use Rattle.tree.specs.State.{State, Top, empty, full, Sound, Outcome, gives, keyEnd, keysOf, isIn, countTop, slotsNeeded, leafAt, noInner, search, insert, delete, step}
 use Rattle.tree.specs.Settle.{treesAfter, settle}
+use Rattle.tree.specs.Spans.{nextFrom, countSpan, deleteSpan}
 use Rattle.tree.proofs.KindNumbers.{named-known, named-number, named-within, not-unknown}
 use Rattle.tree.proofs.Tests.{two-true}
 use Rattle.tree.proofs.Search.{leaf-tested, tested-leaf, leaf-reached}
 use Rattle.tree.proofs.SoundStates.{tree-good}
 use Rattle.tree.proofs.Updated.{SearchSays, found, missing, search-says, InsertSays, present, no-room, added, insert-says, DeleteSays, absent, removed, delete-says, insert-sound}
+use Rattle.tree.proofs.Spans.{NextSays, next, none-above as none-at-or-above, next-says}
+use Rattle.tree.proofs.SpanStates.{span-held}
 use Rattle.tree.proofs.StepState.{four-false, allowed-exactly, StepCause, in-empty, no-inner, no-kind, condition-false as step-condition-false, at-limit as step-at-limit, StepCase, refused, taken, stepping}
 use Rattle.tree.proofs.Settling.{settle-number, settle-empty, settle-sound-state}
 use Rattle.tree.proofs.Demand3.{BalancedState, SomeAccepted, some-accepted-is, some-accepted, none-accepted, settle-code-0}
 use Rattle.tree.proofs.SettleAnswers.{Ended, ended-done, ended-spent, settle-ended}
 use Rattle.encoding.specs.declared.Operation.{Operation}
-use Rattle.encoding.specs.declared.Operation.the-variants.{Search, Insert, Delete, Step, Settle}
+use Rattle.encoding.specs.declared.Operation.the-variants.{Search, Insert, Delete, Step, Settle, AtOrAbove, Count, DeleteSpan}
 use Rattle.encoding.specs.Batch.{operation}
-use Rattle.encoding.specs.Causes.{stepsTaken, Cause, key-present, search-absent, delete-absent, room-lacking, slot-0, slot-above, slot-free, slot-leaf, kind-0, kind-above, condition-false, at-limit, still-allowed, FirstCause, no-cause, first-cause, Numbered, leaf-slot, new-slot, keys-left, the-kind, steps-done, steps-spent, refused-none}
+use Rattle.encoding.specs.Causes.{stepsTaken, Cause, key-present, search-absent, delete-absent, none-above, room-lacking, slot-0, slot-above, slot-free, slot-leaf, kind-0, kind-above, condition-false, at-limit, still-allowed, FirstCause, no-cause, first-cause, Numbered, leaf-slot, new-slot, keys-left, the-kind, steps-done, smallest, keys-counted, keys-gone, steps-spent, refused-none}
 
 -- what a command answers on S, by the table
 pub record Tabled (a b : ℕ) (S : State) (o : Operation) (out : Outcome) : Type 0 where
@@ -48,11 +51,16 @@ lowestOf Insert = 5
 lowestOf Delete = 6
 lowestOf Step = 8
 lowestOf Settle = 12
+lowestOf AtOrAbove = 6
+-- of these none is refused
+lowestOf Count = 13
+lowestOf DeleteSpan = 13
 
 pub from-lowest : {a b m : ℕ} {S : State} {o : Operation} → Cause a b S o m → lowestOf o ≤ m
 from-lowest (key-present z) = omega arith
 from-lowest (search-absent z) = omega arith
 from-lowest (delete-absent z) = omega arith
+from-lowest (none-above z) = omega arith
 from-lowest (room-lacking z) = omega arith
 from-lowest (slot-0 z) = omega arith
 from-lowest (slot-above z) = omega arith
@@ -244,13 +252,41 @@ module _ (a b : ℕ) (S : State) (sound : Sound S) where
       go (inl d) = absurd (omega (arith, settle-code-0 S a sound .1 d, ap codeOf e))
       go (inr (some-accepted-is s k d)) = still-allowed s (kindNumber k) (sym taken-number ∙ ap numberOf e) d
 
+  -- 02 (vii)
+  next-tabled : {x : Answer} → NextSays a S x → Tabled a b S AtOrAbove (gives x S)
+  next-tabled (next {k} l e i f) = record { code-is = no-cause none-there; number-is = smallest l i f }
+    where
+      none-there : (m : ℕ) → Cause a b S AtOrAbove m → ⊥
+      none-there m (none-above z) = omega (arith, z k l)
+  next-tabled (none-at-or-above f) = record {
+    code-is = first-cause (none-above f) (λ m h c. omega (arith, from-lowest c));
+    number-is = refused-none {n = 6} (omega arith) (omega arith);
+  }
+
+  count-tabled : Tabled a b S Count (countSpan a b S)
+  unfolding countSpan
+  count-tabled = record { code-is = no-cause none-there; number-is = keys-counted refl }
+    where
+      none-there : (m : ℕ) → Cause a b S Count m → ⊥
+      none-there m c = elim c [ ]
+
+  span-tabled : Tabled a b S DeleteSpan (deleteSpan a b S)
+  unfolding deleteSpan
+  span-tabled = record { code-is = no-cause none-there; number-is = keys-gone refl (span-held a b S sound) }
+    where
+      none-there : (m : ℕ) → Cause a b S DeleteSpan m → ⊥
+      none-there m c = elim c [ ]
+
   pub answered : (o : Operation) → Tabled a b S o (operation o a b S)
-  unfolding operation
+  unfolding operation nextFrom
   answered Search = search-tabled (search-says a S sound)
   answered Insert = insert-tabled (insert-says a S sound)
   answered Delete = delete-tabled (delete-says a S sound)
   answered Step = step-tabled (stepping a b S)
   answered Settle = settle-tabled (settle-ended S a) refl
+  answered AtOrAbove = next-tabled (next-says a S sound)
+  answered Count = count-tabled
+  answered DeleteSpan = span-tabled
 
 -- No two codes are the lowest.
 pub first-once : {a b m n : ℕ} {S : State} {o : Operation} → FirstCause a b S o m → FirstCause a b S o n → m ≡ n
@@ -281,6 +317,12 @@ numbered-once g h (new-slot e f) (new-slot i j) = one-slot h e f i j
 numbered-once g h (keys-left e) (keys-left f) = e ∙ sym f
 numbered-once g h (the-kind e) (the-kind f) = e ∙ sym f
 numbered-once g h (steps-done e) (steps-done f) = e ∙ sym f
+numbered-once g h (smallest {k} l i f) (smallest {k = j} m n o) = elim (decLt k j) [
+  | yes b ↦ absurd (omega (arith, o k l b))
+  | no b ↦ elim (decLt j k) [ yes c ↦ absurd (omega (arith, f j m c)) | no c ↦ omega arith ]
+]
+numbered-once g h (keys-counted e) (keys-counted f) = e ∙ sym f
+numbered-once g h (keys-gone e i) (keys-gone f j) = e ∙ sym f
 numbered-once g h (steps-spent e) (steps-spent f) = e ∙ sym f
 numbered-once g h (refused-none l k) (refused-none i j) = refl
 numbered-once g h (refused-none l k) (leaf-slot i j) = absurd (omega arith)
@@ -288,10 +330,16 @@ numbered-once g h (refused-none l k) (new-slot i j) = absurd (omega arith)
 numbered-once g h (refused-none l k) (keys-left i) = absurd (omega arith)
 numbered-once g h (refused-none l k) (the-kind i) = absurd (omega arith)
 numbered-once g h (refused-none l k) (steps-done i) = absurd (omega arith)
+numbered-once g h (refused-none l k) (smallest i j f) = absurd (omega arith)
+numbered-once g h (refused-none l k) (keys-counted i) = absurd (omega arith)
+numbered-once g h (refused-none l k) (keys-gone i j) = absurd (omega arith)
 numbered-once g h (refused-none l k) (steps-spent i) = absurd (omega arith)
 numbered-once g h (leaf-slot i j) (refused-none l k) = absurd (omega arith)
 numbered-once g h (new-slot i j) (refused-none l k) = absurd (omega arith)
 numbered-once g h (keys-left i) (refused-none l k) = absurd (omega arith)
 numbered-once g h (the-kind i) (refused-none l k) = absurd (omega arith)
 numbered-once g h (steps-done i) (refused-none l k) = absurd (omega arith)
+numbered-once g h (smallest i j f) (refused-none l k) = absurd (omega arith)
+numbered-once g h (keys-counted i) (refused-none l k) = absurd (omega arith)
+numbered-once g h (keys-gone i j) (refused-none l k) = absurd (omega arith)
 numbered-once g h (steps-spent i) (refused-none l k) = absurd (omega arith)

@@ -3,5 +3,6 @@ pub mod Endings
 pub mod Performs
 pub mod Causes
 pub mod AnswerWords
+pub mod Singly
 pub mod Worked
 pub mod Decides

@@ -8,7 +8,7 @@ use native.Mathlib.Omega.{arith}
 use Prim.Native.Nat.{ℕ, zero, suc, _<_}
 use Rattle.tree.proofs.Tables.{Numbered, listed-number}
 use Rattle.encoding.specs.declared.Operation.{Operation}
-use Rattle.encoding.specs.declared.Operation.the-variants.{Search, Insert, Delete, Step, Settle}
+use Rattle.encoding.specs.declared.Operation.the-variants.{Search, Insert, Delete, Step, Settle, AtOrAbove, Count, DeleteSpan}
 use Rattle.encoding.specs.declared.Which.{Which}
 use Rattle.encoding.specs.declared.Which.the-variants.{Known, Unknown}
 use Rattle.encoding.specs.Operations.{operationNumber, operations, which}
@@ -19,9 +19,12 @@ which-known Insert = refl
 which-known Delete = refl
 which-known Step = refl
 which-known Settle = refl
+which-known AtOrAbove = refl
+which-known Count = refl
+which-known DeleteSpan = refl
 
 numbered : Numbered operationNumber 1 operations
-numbered = (refl, (refl, (refl, (refl, (refl, tt)))))
+numbered = (refl, (refl, (refl, (refl, (refl, (refl, (refl, (refl, tt))))))))
 
 pub which-number : (n : ℕ) (o : Operation) → which n ≡ Known o → n ≡ operationNumber o
 which-number zero o e = cc
@@ -44,3 +47,6 @@ operation-small Insert = omega arith
 operation-small Delete = omega arith
 operation-small Step = omega arith
 operation-small Settle = omega arith
+operation-small AtOrAbove = omega arith
+operation-small Count = omega arith
+operation-small DeleteSpan = omega arith

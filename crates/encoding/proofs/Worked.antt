@@ -1,5 +1,6 @@
--- Document 01, Worked by hand: P1 to P9 and the line without a P, and a router that is no key, in one table, and one proof, which the checker computes. A row is what the definitions
--- give, from batch bytes and pool words, and what 01 says. Assumes nothing.
+-- Document 01, Worked by hand: P1 to P9 and the line without a P, a router that is no key, and of 02 the fourth header word (v) and the three commands
+-- over spans (vii), in one table, and one proof, which the checker computes. A row is what the definitions give, from batch bytes and pool words, and
+-- what 01 or 02 says. Assumes nothing.
 use mathlib.Core.Path.{_≡_, refl}
 use mathlib.Core.Bool.{Bool, true, false, not, _&&_, _||_}
 use mathlib.Core.List.{List, [], _∷_, _++_}
@@ -21,12 +22,13 @@ use Rattle.encoding.specs.Numbers.{lastGroup, below, groups, number}
 use Rattle.encoding.specs.Batch.{lastArgument, onlyArgument, twoArguments, argumentsAt, meantAt, operationAt, commandAt, Batch, commands, badAt, after, readFrom, readBatch, operation, perform, answersOf, runAll, answerWords, filled, Call, called, refused, batchRead, batch}
 use Rattle.tree.specs.declared.Kind.{Kind}
 use Rattle.tree.specs.Codes.{kindNumber}
-use Rattle.tree.specs.Tree.{Tree, leaf, node, slotOf, isLeaf, size, leaves, red, overweighted, one, count, countIn, level}
+use Rattle.tree.specs.Tree.{Tree, leaf, node, slotOf, isLeaf, size, leaves, keys, red, overweighted, one, count, countIn, level}
 use Rattle.tree.specs.Distances.{outside, ifRed, forRed, conflicts, redDistance, overDistance, excessWeight, bound}
 use Rattle.tree.specs.Kinds.{leftRed, rightRed, leftNotRed, rightNotRed, condition, blackened, singleLeft, singleRight, doubleLeft, doubleRight, lightened, lightenLeft, lightenRight, effect, holdsAt, changeAt, conditionAt, stepped, atLimit}
 use Rattle.tree.specs.Updates.{reach, reachedSlot, reachedKey, insertAt, newSlot, movedTo, Cut, cut, deleteAt}
-use Rattle.tree.specs.State.{State, state, Top, empty, full, nodes, upwards, prepared, Outcome, search, insertFirst, insertMore, insert, deleted, delete, leafAt, noInner, stepKind, stepNamed, step, report, figures, levelTop}
+use Rattle.tree.specs.State.{State, state, Top, empty, full, keysOf, nodes, upwards, prepared, Outcome, search, insertFirst, insertMore, insert, deleted, delete, leafAt, noInner, stepKind, stepNamed, step, report, figures, levelTop}
 use Rattle.tree.specs.Settle.{allowed, lowestKind, lowestStep, nextTree, treesAfter, lastOf, settled, settle}
+use Rattle.tree.specs.Spans.{firstFrom, keyOrAbsent, nextKey, nextFrom, spanOf, countSpan, deleteEach, deleteSpan}
 
 -- P1: the pool after the four inserts. The fourth header word is L, in this pool and in those below: 02 (v).
 abbrev w1 : List ℕ
@@ -82,6 +84,14 @@ w11 = pool (header 1 0 5 2) (slot 10 2 3 1 ∷ slot 10 0 0 2 ∷ slot 20 4 5 0 �
 
 abbrev w11b : List ℕ
 w11b = pool (header 1 0 5 2) (slot 20 3 5 1 ∷ slot 10 0 0 1 ∷ slot 10 2 4 1 ∷ slot 20 0 0 1 ∷ slot 30 0 0 2 ∷ [])
+
+-- 02 (vii): P1's pool after "8 15 35". The delete of 20 gives back its sibling's slot 5 and its own slot 4, then that of 30 gives back 7 and 6.
+abbrev w12 : List ℕ
+w12 = pool (header 1 7 3 1) (slot 10 2 3 1 ∷ slot 10 0 0 1 ∷ slot 40 0 0 1 ∷ freeSlot 8 ∷ freeSlot 4 ∷ freeSlot 5 ∷ freeSlot 6 ∷ freeSlot 9 ∷ freeSlot 0 ∷ [])
+
+-- the same keys, but the larger of the two deleted first
+abbrev w13 : List ℕ
+w13 = pool (header 1 5 3 1) (slot 10 2 3 1 ∷ slot 10 0 0 1 ∷ slot 40 0 0 1 ∷ freeSlot 7 ∷ freeSlot 4 ∷ freeSlot 8 ∷ freeSlot 6 ∷ freeSlot 9 ∷ freeSlot 0 ∷ [])
 
 -- A call on words, with as many answer words as its n commands need, which hold 77 before it: what it gives and answers, and the
 -- words that it leaves in the pool.
@@ -182,8 +192,16 @@ cases =
     ∷ row (leaves-words w9 (3 ∷ 10 ∷ []) 1) w9b
     ∷ row (leaves-words w10 (3 ∷ 10 ∷ []) 1) w10b
     ∷ row (leaves-words w11 (4 ∷ 1 ∷ 7 ∷ []) 1) w11b
+    -- 02 (vii), after P1: "6 15" answers 0 20, "6 41" 6 0; "7 10 30" answers 0 3, "7 30 10" 0 0; "8 15 35" answers 0 2, and then "7 0 4294967295" 0 2.
+    ∷ row (says w1 (6 ∷ 15 ∷ 6 ∷ 41 ∷ 7 ∷ 10 ∷ 30 ∷ 7 ∷ 30 ∷ 10 ∷ []) 4) (0 ∷ 0 ∷ 0 ∷ 20 ∷ 6 ∷ 0 ∷ 0 ∷ 3 ∷ 0 ∷ 0 ∷ [])
+    ∷ row (leaves-words w1 (6 ∷ 15 ∷ 6 ∷ 41 ∷ 7 ∷ 10 ∷ 30 ∷ 7 ∷ 30 ∷ 10 ∷ []) 4) w1
+    ∷ row (says w1 (8 ∷ 15 ∷ 35 ∷ 7 ∷ 0 ∷ 0xFF ∷ 0xFF ∷ 0xFF ∷ 0xFF ∷ 0x0F ∷ []) 2) (0 ∷ 0 ∷ 0 ∷ 2 ∷ 0 ∷ 2 ∷ [])
+    ∷ row (leaves-words w1 (8 ∷ 15 ∷ 35 ∷ []) 1) w12
+    ∷ row (leaves-words w1 (3 ∷ 20 ∷ 3 ∷ 30 ∷ []) 2) w12
+    -- .. and in the other order another free chain
+    ∷ row (leaves-words w1 (3 ∷ 30 ∷ 3 ∷ 20 ∷ []) 2) w13
     ∷ []
 
 pub worked : allGiven cases ≡ allSaid cases
-unfolding cases allGiven allSaid redSlots headerOf slotAt slotsIn lengthGood inTree inChain inTop rootOf shownSlot shownHeader slotsFrom wordsOf isSlot follow chain chainEnds treeFound chainFound slotsOf bare all allFrom same rule-once freeWords rule-free children rule-children leafKeys routed rule-order wellWeighed rootWeighed rule-weights sumsOf rootSums rule-sums rule-level rules allTrue rulesUnder foundWeight treeOf topOf stateUnder audited lastGroup below groups number lastArgument onlyArgument twoArguments argumentsAt meantAt operationAt commandAt after readFrom readBatch operation perform answersOf runAll answerWords filled called refused batchRead batch slotOf isLeaf size leaves red overweighted one count countIn level outside ifRed forRed conflicts redDistance overDistance excessWeight bound leftRed rightRed leftNotRed rightNotRed condition blackened singleLeft singleRight doubleLeft doubleRight lightened lightenLeft lightenRight effect holdsAt changeAt conditionAt stepped atLimit reach reachedSlot reachedKey insertAt newSlot movedTo cut deleteAt nodes upwards prepared search insertFirst insertMore insert deleted delete leafAt noInner stepKind stepNamed step report figures levelTop allowed lowestKind lowestStep nextTree treesAfter lastOf settled settle
+unfolding cases allGiven allSaid redSlots headerOf slotAt slotsIn lengthGood inTree inChain inTop rootOf shownSlot shownHeader slotsFrom wordsOf isSlot follow chain chainEnds treeFound chainFound slotsOf bare all allFrom same rule-once freeWords rule-free children rule-children leafKeys routed rule-order wellWeighed rootWeighed rule-weights sumsOf rootSums rule-sums rule-level rules allTrue rulesUnder foundWeight treeOf topOf stateUnder audited lastGroup below groups number lastArgument onlyArgument twoArguments argumentsAt meantAt operationAt commandAt after readFrom readBatch operation perform answersOf runAll answerWords filled called refused batchRead batch slotOf isLeaf size leaves red overweighted one count countIn level outside ifRed forRed conflicts redDistance overDistance excessWeight bound leftRed rightRed leftNotRed rightNotRed condition blackened singleLeft singleRight doubleLeft doubleRight lightened lightenLeft lightenRight effect holdsAt changeAt conditionAt stepped atLimit reach reachedSlot reachedKey insertAt newSlot movedTo cut deleteAt nodes upwards prepared search insertFirst insertMore insert deleted delete leafAt noInner stepKind stepNamed step report figures levelTop allowed lowestKind lowestStep nextTree treesAfter lastOf settled settle keys keysOf firstFrom keyOrAbsent nextKey nextFrom spanOf countSpan deleteEach deleteSpan
 worked = refl

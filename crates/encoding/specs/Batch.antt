@@ -1,5 +1,5 @@
 -- Document 01, The batch: commands and their reading (RULES 7), a call's refusals in order, and what a call leaves in the pool and the
--- answers (RULES 8, 9).
+-- answers (RULES 8, 9); 02 (vii)'s commands among them (RULES 18).
 use mathlib.Core.Bool.{true, false, not}
 use mathlib.Core.List.{List, [], _∷_, _++_}
 use lib.Dec.{eqb, leb, ltb}
@@ -8,7 +8,7 @@ use Prim.Native.Nat.{ℕ, zero, suc, _+_, _*_}
 use Rattle.encoding.specs.declared.Number.{Number}
 use Rattle.encoding.specs.declared.Number.the-variants.{Read, Wrong}
 use Rattle.encoding.specs.declared.Operation.{Operation}
-use Rattle.encoding.specs.declared.Operation.the-variants.{Search, Insert, Delete, Step, Settle}
+use Rattle.encoding.specs.declared.Operation.the-variants.{Search, Insert, Delete, Step, Settle, AtOrAbove, Count, DeleteSpan}
 use Rattle.encoding.specs.declared.Which.{Which}
 use Rattle.encoding.specs.declared.Which.the-variants.{Known, Unknown}
 use Rattle.encoding.specs.declared.Command.{Command}
@@ -25,6 +25,7 @@ use Rattle.tree.specs.declared.Answer.{Answer}
 use Rattle.tree.specs.Codes.{code, numberBeside, codeOf, numberOf}
 use Rattle.tree.specs.State.{State, Outcome, search, insert, delete, step}
 use Rattle.tree.specs.Settle.{settle}
+use Rattle.tree.specs.Spans.{nextFrom, countSpan, deleteSpan}
 
 -- RULES 7.5: "At most 256 commands."
 abbrev pub mostCommands : ℕ
@@ -86,13 +87,16 @@ readFrom (suc n) bytes i = elim (leb (length bytes) i) [
 unfoldable pub readBatch : List ℕ → Batch
 readBatch bytes = readFrom mostCommands bytes 0
 
--- What a command does (RULES 7.3): the one table of what the operations mean.
+-- What a command does (RULES 7.3, 18.1): the one table of what the operations mean.
 unfoldable pub operation : Operation → ℕ → ℕ → State → Outcome
 operation Search a b S = search a S
 operation Insert a b S = insert a S
 operation Delete a b S = delete a S
 operation Step a b S = step a b S
 operation Settle a b S = settle a S
+operation AtOrAbove a b S = nextFrom a S
+operation Count a b S = countSpan a b S
+operation DeleteSpan a b S = deleteSpan a b S
 
 unfoldable pub perform : Command → State → Outcome
 perform c S = operation (c .operation) (c .first) (c .second) S

@@ -1,10 +1,10 @@
 -- Document 01's table of codes for a command, rows 5 to 12 (RULES 9), and the numbers beside them: column "Given exactly when" and column
--- "Number", over the State that the commands before it left; which code is given (RULES 8). (Rows 1 to 4 refuse a whole call: crate
+-- "Number", over the State that the commands before it left; which code is given (RULES 8); with those of 02 (vii) (RULES 18). (Rows 1 to 4 refuse a whole call: crate
 -- demands' Ends.antt.)
 use mathlib.Core.Path.{_≡_}
 use mathlib.Core.Bool.{false}
 use lib.ListN.{length}
-use Prim.Native.Nat.{ℕ, _≤_, _<_}
+use Prim.Native.Nat.{ℕ, _+_, _≤_, _<_}
 use Rattle.tree.specs.declared.Kind.{Kind}
 use Rattle.tree.specs.declared.Answer.the-variants.{Done}
 use Rattle.tree.specs.Codes.{mostLevel, kindNumber}
@@ -12,8 +12,9 @@ use Rattle.tree.specs.Tree.{Tree, slotOf, countIn, level, LeafIn}
 use Rattle.tree.specs.Kinds.{conditionAt}
 use Rattle.tree.specs.State.{State, empty, full, keysOf, isIn, slotsNeeded, step}
 use Rattle.tree.specs.Settle.{treesAfter, settle}
+use Rattle.tree.specs.Spans.{keysFrom}
 use Rattle.encoding.specs.declared.Operation.{Operation}
-use Rattle.encoding.specs.declared.Operation.the-variants.{Search, Insert, Delete, Step, Settle}
+use Rattle.encoding.specs.declared.Operation.the-variants.{Search, Insert, Delete, Step, Settle, AtOrAbove, Count, DeleteSpan}
 
 -- "steps taken": the trees of settle after the first
 unfoldable pub stepsTaken : ℕ → State → ℕ
@@ -26,6 +27,8 @@ pub data Cause (a b : ℕ) (S : State) : Operation → ℕ → Type 0 where
   -- 6 (RULES 9.6) "search or delete: key absent"
   search-absent : isIn a S ≡ 0 → Cause a b S Search 6
   delete-absent : isIn a S ≡ 0 → Cause a b S Delete 6
+  -- .. and 02 (vii)'s (RULES 18.2): no key of the set is at or above a
+  none-above : ((y : ℕ) → a ≤ y → isIn y S ≡ 0) → Cause a b S AtOrAbove 6
   -- 7 (RULES 9.7) "insert: fewer free slots than needed (1 if empty, else 2)"
   room-lacking : length (S .free) < slotsNeeded (S .top) → Cause a b S Insert 7
   -- 8 (RULES 9.8) "step: slot is 0, above C, free or a leaf"
@@ -56,6 +59,11 @@ pub data Numbered (a b : ℕ) (S T : State) : Operation → ℕ → ℕ → Type
   keys-left : {n : ℕ} → n ≡ length (keysOf (T .top)) → Numbered a b S T Delete 0 n
   the-kind : {n : ℕ} → n ≡ b → Numbered a b S T Step 0 n
   steps-done : {n : ℕ} → n ≡ stepsTaken a S → Numbered a b S T Settle 0 n
+  -- 02 (vii) (RULES 18.2, 18.4, 18.5): a key of the set at or above a, and none of the set between; how many keys from a to b there are; and how many
+  -- there were, which the set has no more
+  smallest : {k : ℕ} → a ≤ k → isIn k S ≡ 1 → ((y : ℕ) → a ≤ y → y < k → isIn y S ≡ 0) → Numbered a b S T AtOrAbove 0 k
+  keys-counted : {n : ℕ} → n ≡ length (keysFrom a b S) → Numbered a b S T Count 0 n
+  keys-gone : {n : ℕ} → n ≡ length (keysFrom a b S) → length (keysOf (S .top)) ≡ n + length (keysOf (T .top)) → Numbered a b S T DeleteSpan 0 n
   -- 12: "steps taken"
   steps-spent : {n : ℕ} → n ≡ stepsTaken a S → Numbered a b S T Settle 12 n
   -- 5 to 11: 0

@@ -1,4 +1,5 @@
 pub mod Numbers
 pub mod Operations
 pub mod Batch
+pub mod Singly
 pub mod Causes

@@ -8,13 +8,16 @@ pub enum Number {
     Wrong(usize),
 }
 
-// 01: "1 search key; 2 insert key; 3 delete key; 4 step slot kind; 5 settle budget."
+// 01: "1 search key; 2 insert key; 3 delete key; 4 step slot kind; 5 settle budget." 02 (vii): 6 with a key, 7 and 8 with the two ends of a span.
 pub enum Operation {
     Search,
     Insert,
     Delete,
     Step,
     Settle,
+    AtOrAbove,
+    Count,
+    DeleteSpan,
 }
 
 // The operation that a number names, or none.
@@ -34,6 +37,12 @@ impl Operation {
 
     pub const SETTLE: u32 = 5;
 
+    pub const AT_OR_ABOVE: u32 = 6;
+
+    pub const COUNT: u32 = 7;
+
+    pub const DELETE_SPAN: u32 = 8;
+
     pub fn number(self) -> u32
         ensures { λ r. ⌜ r ≡ operationNumber self ⌝ }
     {
@@ -43,6 +52,9 @@ impl Operation {
             Operation::Delete => Operation::DELETE,
             Operation::Step => Operation::STEP,
             Operation::Settle => Operation::SETTLE,
+            Operation::AtOrAbove => Operation::AT_OR_ABOVE,
+            Operation::Count => Operation::COUNT,
+            Operation::DeleteSpan => Operation::DELETE_SPAN,
         }
     }
 
@@ -56,6 +68,9 @@ impl Operation {
             Operation::Delete => 1,
             Operation::Step => 2,
             Operation::Settle => 1,
+            Operation::AtOrAbove => 1,
+            Operation::Count => 2,
+            Operation::DeleteSpan => 2,
         }
     }
 
@@ -69,6 +84,9 @@ impl Operation {
             Operation::DELETE => Which::Known(Operation::Delete),
             Operation::STEP => Which::Known(Operation::Step),
             Operation::SETTLE => Which::Known(Operation::Settle),
+            Operation::AT_OR_ABOVE => Which::Known(Operation::AtOrAbove),
+            Operation::COUNT => Which::Known(Operation::Count),
+            Operation::DELETE_SPAN => Which::Known(Operation::DeleteSpan),
             _ => Which::Unknown,
         }
     }

@@ -15,7 +15,7 @@ use native.Mathlib.Decide.{decLe}
 use borrow.Author.Tests.{eqb-true, eq-eqb, leb-true, le-leb}
 use Rattle.format.specs.declared.Header.{Header}
 use Rattle.format.specs.declared.Slot.{Slot}
-use Rattle.format.specs.Words.{header, atLevel, slot, putHeader, slotAt, slotsIn, lengthGood, freeSlot, headOf, inTree, inChain, inTop, rootOf, shownSlot, shownHeader, wordsOf}
+use Rattle.format.specs.Words.{header, atLevel, slot, putHeader, slotAt, slotsIn, lastSlot, lengthGood, freeSlot, headOf, inTree, inChain, inTop, rootOf, shownSlot, shownHeader, wordsOf}
 use Rattle.format.specs.Shows.{At, Holds, holds-leaf, holds-node, HoldsTop, Chain, chain-end, chain-more, Shows, PoolShows}
 use Rattle.tree.specs.Codes.{mostSlots}
 use Rattle.tree.specs.Tree.{Tree, leaf, node, slotOf, size, count, countIn, level}
@@ -223,6 +223,9 @@ length-is-good p n e l h = rw (slots-in p n e, eq-eqb (length p) (4 + 4 * n) e, 
 pub shows-length-good : {h : Header} {p : List ℕ} {S : State} → Sound S → Shows h p S → (lengthGood p ≡ true) × (slotsIn p ≡ S .slots)
 shows-length-good {p = p} {S} sound shows =
     (length-is-good p (S .slots) (shows .length-is) (sound .some) (sound .few), slots-in p (S .slots) (shows .length-is))
+
+pub last-slot-is : {h : Header} {p : List ℕ} {S : State} → Sound S → Shows h p S → lastSlot p ≡ S .slots
+last-slot-is sound shows = let e = shows-length-good sound shows .1 in let f = sound .few in rw e (omega arith)
 
 -- what a good length says
 pub record GoodLength (p : List ℕ) : Type 0 where

@@ -3,6 +3,7 @@ pub mod Balancing
 pub mod Working
 pub mod Members
 pub mod Answers
+pub mod SpanAnswers
 pub mod Levels
 pub mod SixWords
 pub mod Leaves

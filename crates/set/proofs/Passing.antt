@@ -1,5 +1,5 @@
 -- Pools that pass the audit. They do exactly when the audit's code is 0 (`audit-passes`, `passing-audited`), every word of theirs is a
--- 32-bit number (`passing-words`), and every operation leaves one: insert, delete, step, settle, and prepare (`…-passing`).
+-- 32-bit number (`passing-words`), and every operation leaves one: insert, delete, step, settle, and prepare (`…-passing`; of a span, SpanAnswers.antt).
 -- Why: each operation on words that show a sound State shows the State that the definition gives (the crates' `…-shows`), and that
 -- one is sound (crate tree's `…-sound`). Assumes nothing.
 use mathlib.Core.Path.{_≡_, sym, _∙_}

@@ -22,18 +22,19 @@ use Rattle.pool.specs.Results.{preparedWords}
 pub use Rattle.format.proofs.AuditCases.{Words32}
 use Rattle.updates.specs.Updating.{searchAnswer, insertAnswer, insertWords, deleteAnswer, deleteWords}
 use Rattle.updates.proofs.Kept as kept
-use Rattle.spans.specs.Spanning.{nextAnswer}
+use Rattle.spans.specs.Spanning.{nextAnswer, countAnswer, deleteSpanAnswer, deleteSpanWords}
 use Rattle.report.specs.Report.{reportOf}
 use Rattle.steps.specs.Steps.{stepAnswer, stepWords, settleAnswer, settleWords}
 use Rattle.steps.proofs.StepShows as steps
 use Rattle.set.specs.Operations.{auditAnswer}
-use Rattle.set.specs.Set.{Passing, member, held, room, needed, Audits, LeafSlot, OneMore, SameSet, Prepared, Searched, NextSays, Inserted, Deleted, Settles, KeyCodes, InsertCodes}
+use Rattle.set.specs.Set.{Passing, member, held, room, needed, Audits, LeafSlot, OneMore, SameSet, Prepared, Searched, NextSays, membersIn, SpanGone, Inserted, Deleted, Settles, KeyCodes, InsertCodes}
 use Rattle.set.specs.Balance.{boundNumber}
 use Rattle.set.proofs.Passing as passing
 use Rattle.set.proofs.Members as members
 use Rattle.set.proofs.Answers as answers
 use Rattle.set.proofs.Leaves as leaves
 use Rattle.set.proofs.Balancing as balancing
+use Rattle.set.proofs.SpanAnswers as spans
 
 -- The audit gives code 0 exactly to the pools that pass; the length of one is good, and every word of it a 32-bit number.
 pub audit-passes : (p : List ℕ) → Words32 p → (auditCode p ≡ 0) ↔ Passing p
@@ -152,6 +153,24 @@ module _ {p : List ℕ} (g : Passing p) (x : ℕ) where
 
   pub delete-refused : {f : Refusal} → deleteAnswer p x ≡ Refused f → member x p ≡ 0
   delete-refused = answers.delete-refused g x
+
+-- A span: how many of the numbers from a to b are in the set; deleted, these are gone, as many as are answered, and no other key; where there is none,
+-- no word changes.
+module _ {p : List ℕ} (g : Passing p) (a b : ℕ) where
+  pub count-says : countAnswer p a b ≡ Done (membersIn a b p)
+  count-says = spans.count-says g a b
+
+  pub delete-span-passing : Passing (deleteSpanWords p a b)
+  delete-span-passing = spans.delete-span-passing g a b
+
+  pub delete-span-answer : deleteSpanAnswer p a b ≡ Done (membersIn a b p)
+  delete-span-answer = spans.delete-span-answer g a b
+
+  pub delete-span-says : SpanGone a b p (deleteSpanWords p a b)
+  delete-span-says = spans.delete-span-says g a b
+
+  pub delete-span-none : membersIn a b p ≡ 0 → deleteSpanWords p a b ≡ p
+  delete-span-none = spans.delete-span-none g a b
 
 -- Settle: the set and its room stay. It is done with at most as many steps as the report's seventh number, or its budget is spent; that
 -- number is budget enough, and it falls by the steps taken. These are at most the budget, and with code 12 all of it.

@@ -1,11 +1,11 @@
--- The set of keys that a pool shows, and what its operations answer (RULES 13.2): the words of proofs/Promises.antt. A crate above cites
+-- The set of keys that a pool shows, and what its operations answer (RULES 13.2, RULES 18): the words of proofs/Promises.antt. A crate above cites
 -- these names and cannot look behind them: `Passing`, `member`, `held`, `room` and `needed` are passed on here, and what they are stands in Inside.antt.
 use mathlib.Core.Path.{_≡_}
 use mathlib.Core.Logic.{_↔_}
 use mathlib.Core.Bool.{true, false}
 use mathlib.Core.List.{List}
 use lib.Dec.{eqb}
-use Prim.Native.Nat.{ℕ, _+_, _≤_, _<_}
+use Prim.Native.Nat.{ℕ, zero, suc, _+_, _-_, _≤_, _<_}
 use Rattle.tree.specs.declared.Answer.{Answer}
 use Rattle.tree.specs.declared.Answer.the-variants.{Done, Refused, Spent}
 use Rattle.tree.specs.declared.Refusal.the-variants.{PoolLength, RulesBroken, KeyPresent, KeyAbsent, NoRoom}
@@ -63,6 +63,20 @@ pub data Searched (x : ℕ) (p : List ℕ) : Answer → Type 0 where
 pub data NextSays (x : ℕ) (p : List ℕ) : Answer → Type 0 where
   next-is : {k : ℕ} → x ≤ k → k < keyEnd → member k p ≡ 1 → ((y : ℕ) → x ≤ y → y < k → member y p ≡ 0) → NextSays x p (Done k)
   none-left : ((y : ℕ) → x ≤ y → member y p ≡ 0) → NextSays x p (Refused KeyAbsent)
+
+-- 02 (vii) (RULES 18.3): how many of the n numbers from x on are in the set; and how many of those from a to b, none where a is above b.
+unfoldable pub membersFrom : (n x : ℕ) → List ℕ → ℕ
+membersFrom zero x p = 0
+membersFrom (suc n) x p = member x p + membersFrom n (suc x) p
+
+abbrev pub membersIn : (a b : ℕ) → List ℕ → ℕ
+membersIn a b p = membersFrom (suc b - a) a p
+
+-- A span deleted (RULES 18.5): q has the keys that p has but for those from a to b, and none of these; as many went.
+pub record SpanGone (a b : ℕ) (p q : List ℕ) : Type 0 where
+  pub members-inside : (y : ℕ) → a ≤ y → y ≤ b → member y q ≡ 0
+  pub members-outside : (y : ℕ) → (a ≤ y → y ≤ b → ⊥) → member y q ≡ member y p
+  pub keys-held : held p ≡ membersIn a b p + held q
 
 -- Insert: "key present"; "fewer free slots than needed"; or done, and then the set has that key more. A refusal leaves the words.
 pub data Inserted (x : ℕ) (p : List ℕ) : Answer → List ℕ → Type 0 where

@@ -2,6 +2,8 @@
 // calls these, cites that page and specs/, and needs nothing behind them.
 use format::Audited;
 use pool::examine;
+pub use spans::count;
+pub use spans::delete_span;
 pub use spans::next_key;
 use tree::Answer;
 use tree::Refusal;

@@ -27,14 +27,14 @@ use Rattle.format.specs.Shows.{Chain, chain-end, chain-more, Shows}
 use Rattle.tree.proofs.Counts.{in-chain}
 use Rattle.format.proofs.Frame.{rootSlot, holds-root}
 use Rattle.format.proofs.Replace.{in-holds, find-slot, holdsAt-none, holdsAt-in}
-use Rattle.format.proofs.Shown.{shows-tree}
+use Rattle.format.proofs.Shown.{shows-tree, last-slot-is}
 use Rattle.kinds.specs.Around.{aroundAt}
 use Rattle.kinds.specs.Conditions.{fits}
 use Rattle.kinds.proofs.ConditionShows.{condition-shows}
 use Rattle.steps.specs.declared.Lowest.{Lowest}
 use Rattle.steps.specs.declared.Lowest.the-variants.{At, Nothing}
 use Rattle.steps.specs.Steps.{hasChildren, innerSlot, innerAt, limitAt, allowedAround, allowedWords, firstKind, firstFrom, firstAllowed}
-use Rattle.steps.proofs.LevelShows.{last-slot-is, children-held, limit-shows}
+use Rattle.steps.proofs.LevelShows.{children-held, limit-shows}
 
 -- "A free slot is 0, next free slot, 0, 4,294,967,295": it has no children.
 free-bare : {p : List ℕ} {a : ℕ} {fs : List ℕ} → Chain p a fs → (s : ℕ) → 1 ≤ countIn s fs → hasChildren (slotAt p s) ≡ false

@@ -1,5 +1,5 @@
 -- The limit on L: a header that shows a sound State has the tree's L (`shows-level` of crate format), so kind 1 at the root is refused for it where
--- the definition says (`limit-shows`). C is the State's (`last-slot-is`), and an inner node has children (`children-held`). Assumes nothing.
+-- the definition says (`limit-shows`). An inner node has children (`children-held`). Assumes nothing.
 use mathlib.Core.Path.{_≡_, refl, ap, _∙_}
 use mathlib.Core.Bool.{not}
 use mathlib.Core.List.{List}
@@ -12,14 +12,11 @@ use Rattle.tree.specs.Tree.{Tree, slotOf, isLeaf, level}
 use Rattle.tree.specs.Kinds.{atLimit}
 use Rattle.tree.specs.State.{State, full, levelTop, Sound}
 use Rattle.format.specs.declared.Header.{Header}
-use Rattle.format.specs.Words.{rootOf, lastSlot}
+use Rattle.format.specs.Words.{rootOf}
 use Rattle.format.specs.Shows.{Holds, holds-leaf, holds-node, Shows}
 use Rattle.format.proofs.Frame.{rootSlot, holds-root}
-use Rattle.format.proofs.Shown.{shows-root, shows-level, shows-length-good}
+use Rattle.format.proofs.Shown.{shows-root, shows-level}
 use Rattle.steps.specs.Steps.{hasChildren, limitAt}
-
-pub last-slot-is : {h : Header} {p : List ℕ} {S : State} → Sound S → Shows h p S → lastSlot p ≡ S .slots
-last-slot-is sound shows = let e = shows-length-good sound shows .1 in let f = sound .few in rw e (omega arith)
 
 -- "a leaf has left and right 0; an inner node has both from 1 to C"
 pub children-held : {p : List ℕ} {w : ℕ} {t : Tree} → Holds p w t → hasChildren (rootSlot w t) ≡ not (isLeaf t)

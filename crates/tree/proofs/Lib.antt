@@ -19,6 +19,8 @@ pub mod Insert
 pub mod Delete
 pub mod Updated
 pub mod Spans
+pub mod SpanStates
+pub mod SpanTrees
 pub mod Below
 pub mod Excess
 pub mod Limits

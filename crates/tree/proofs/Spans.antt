@@ -60,7 +60,7 @@ pub data NextSays (x : ℕ) (S : State) : Answer → Type 0 where
   next : {k : ℕ} → x ≤ k → k < keyEnd → isIn k S ≡ 1 → ((y : ℕ) → x ≤ y → y < k → isIn y S ≡ 0) → NextSays x S (Done k)
   none-above : ((y : ℕ) → x ≤ y → isIn y S ≡ 0) → NextSays x S (Refused KeyAbsent)
 
-keys-rise : (S : State) → Sound S → Rising (keysOf (S .top))
+pub keys-rise : (S : State) → Sound S → Rising (keysOf (S .top))
 unfolding keysOf Rising
 keys-rise S g = go (S .top) refl
   where
@@ -68,8 +68,8 @@ keys-rise S g = go (S .top) refl
     go empty e = tt
     go (full t) e = keys-rising 0 keyEnd t (tree-good S t g e .ordered)
 
--- "Keys are 32-bit numbers."
-key-small : (k : ℕ) (S : State) → Sound S → 1 ≤ isIn k S → k < keyEnd
+-- a key is a 32-bit number
+pub key-small : (k : ℕ) (S : State) → Sound S → 1 ≤ isIn k S → k < keyEnd
 unfolding keysOf countIn
 key-small k S g = go (S .top) refl
   where

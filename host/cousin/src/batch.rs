@@ -2,6 +2,7 @@
 
 use crate::code;
 use crate::pool::{audit, slots};
+use crate::spans::{at_or_above, count_span, delete_span};
 use crate::steps::{settle, step, Answer};
 use crate::updates::{delete, insert, search};
 
@@ -58,8 +59,8 @@ struct Command {
 #[inline]
 fn arguments(operation: u32) -> Option<usize> {
     match operation {
-        1 | 2 | 3 | 5 => Some(1),
-        4 => Some(2),
+        1 | 2 | 3 | 5 | 6 => Some(1),
+        4 | 7 | 8 => Some(2),
         _ => None,
     }
 }
@@ -110,7 +111,10 @@ fn run(pool: &mut [u32], c: &Command) -> Answer {
         2 => insert(pool, c.first),
         3 => delete(pool, c.first),
         4 => step(pool, c.first, c.second),
-        _ => settle(pool, c.first),
+        5 => settle(pool, c.first),
+        6 => at_or_above(pool, c.first).map_or(Answer::refused(code::KEY_ABSENT), Answer::good),
+        7 => Answer::good(count_span(pool, c.first, c.second)),
+        _ => Answer::good(delete_span(pool, c.first, c.second)),
     }
 }
 

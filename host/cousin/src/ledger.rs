@@ -3,8 +3,9 @@
 use crate::batch::refused;
 use crate::code;
 use crate::pool::audit;
+use crate::spans::at_or_above;
 use crate::steps::Answer;
-use crate::updates::{at_or_above, delete, insert, search};
+use crate::updates::{delete, insert, search};
 
 const MOST_NOTICE: u32 = 65_535;
 const MOST_RESIDENT: u32 = 8_191;

@@ -11,6 +11,7 @@ mod ledger;
 mod pool;
 mod report;
 mod saved;
+mod spans;
 mod steps;
 mod updates;
 

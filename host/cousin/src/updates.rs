@@ -1,4 +1,4 @@
-//! Search, the next key, insert and delete on a sound pool.
+//! Search, insert and delete on a sound pool.
 
 use crate::code;
 use crate::pool::{
@@ -37,28 +37,6 @@ pub fn search(pool: &[u32], key: u32) -> Answer {
     } else {
         Answer::refused(code::KEY_ABSENT)
     }
-}
-
-/// The smallest key at or above one, by one descent: where search ends, else the least key right of the last turn to the left.
-pub fn at_or_above(pool: &[u32], key: u32) -> Option<u32> {
-    let mut above = 0;
-    let mut slot = root(pool);
-    while slot != 0 {
-        let node = read(pool, slot);
-        slot = if node.right == 0 {
-            if node.key >= key {
-                return Some(node.key);
-            }
-            // All that is there lies above the key, so that the way leads down its left side.
-            std::mem::take(&mut above)
-        } else if key > node.key {
-            node.right
-        } else {
-            above = node.right;
-            node.left
-        };
-    }
-    None
 }
 
 pub fn insert(pool: &mut [u32], key: u32) -> Answer {

@@ -4,8 +4,8 @@ use crate::pools::{grown, Shape, Weights};
 use crate::rng::Rng;
 use crate::twin;
 use chromatic::{
-    raw, Answer, Batch, Command, Deleted, Full, Inserted, Kind, Mark, MaySend, NoKind, Permit, Pool, Refused, Searched, Settled, Stepped,
-    Text, Words,
+    raw, Answer, Batch, Command, Deleted, Found, Full, Inserted, Kind, Mark, MaySend, NoKind, Permit, Pool, Refused, Searched, Settled,
+    Stepped, Text, Words,
 };
 use std::cell::Cell;
 use std::error::Error;
@@ -96,21 +96,31 @@ fn answers_come_in_the_batch_s_order() -> Result<(), Refused> {
         Command::Delete { key: 9 },
         Command::Delete { key: 1 },
         Command::Settle { budget: 5 },
+        Command::AtOrAbove { key: 1 },
+        Command::AtOrAbove { key: 3 },
+        Command::Count { first: 1, last: 3 },
+        Command::DeleteSpan { first: 2, last: u32::MAX },
+        Command::DeleteSpan { first: 3, last: 2 },
     ];
     commands.iter().for_each(|&c| batch.push(c).unwrap());
     let mut answers = pool.run(&batch)?;
     let left = |answers: &chromatic::Answers| (answers.len(), answers.size_hint());
-    assert_eq!(left(&answers), (9, (9, Some(9))));
+    assert_eq!(left(&answers), (14, (14, Some(14))));
     assert!(matches!(answers.next(), Some(Answer::Insert { key: 1, answer: Inserted::NewlyMarked(mark) }) if mark.slot() == 1));
     assert!(matches!(answers.next(), Some(Answer::Insert { key: 1, answer: Inserted::KeyPresent })));
     assert!(matches!(answers.next(), Some(Answer::Insert { key: 2, answer: Inserted::NewlyMarked(mark) }) if mark.slot() == 3));
-    assert_eq!(left(&answers), (6, (6, Some(6))));
+    assert_eq!(left(&answers), (11, (11, Some(11))));
     assert!(matches!(answers.next(), Some(Answer::Insert { key: 3, answer: Inserted::NoRoom })));
     assert!(matches!(answers.next(), Some(Answer::Search { key: 2, answer: Searched::Marked { slot: 3 } })));
     assert!(matches!(answers.next(), Some(Answer::Step { slot: 1, kind: Kind::Six, answer: Stepped::ConditionFalse })));
     assert!(matches!(answers.next(), Some(Answer::Delete { key: 9, answer: Deleted::KeyAbsent })));
     assert!(matches!(answers.next(), Some(Answer::Delete { key: 1, answer: Deleted::Cleared { keys_left: 1 } })));
     assert!(matches!(answers.next(), Some(Answer::Settle { budget: 5, answer: Settled::RedBlack { steps: 0 } })));
+    assert!(matches!(answers.next(), Some(Answer::AtOrAbove { key: 1, answer: Found::Key(2) })));
+    assert!(matches!(answers.next(), Some(Answer::AtOrAbove { key: 3, answer: Found::NoneAbove })));
+    assert!(matches!(answers.next(), Some(Answer::Count { first: 1, last: 3, answer: 1 })));
+    assert!(matches!(answers.next(), Some(Answer::DeleteSpan { first: 2, last: u32::MAX, answer: 1 })));
+    assert!(matches!(answers.next(), Some(Answer::DeleteSpan { first: 3, last: 2, answer: 0 })));
     assert_eq!(left(&answers), (0, (0, Some(0))));
     assert!(answers.next().is_none() && answers.next().is_none());
     Ok(())
@@ -134,6 +144,10 @@ fn the_builder_writes_shortest_forms() {
             let kind = rng.pick(&Kind::ALL);
             batch.push_step(n, kind).unwrap();
             want.push(twin::Command::Step(n, kind as u32));
+            batch.push_at_or_above(n).unwrap();
+            batch.push_count(n..=9).unwrap();
+            batch.push_delete_span(9..=n).unwrap();
+            want.extend([twin::Command::AtOrAbove(n), twin::Command::Count(n, 9), twin::Command::DeleteSpan(9, n)]);
             let len = batch.write(&mut bytes);
             assert_eq!(bytes[..len], twin::Command::all(&want)[..]);
             assert_eq!(twin::commands(&bytes[..len]), Ok(want));
@@ -169,6 +183,82 @@ fn the_longest_batch() -> Result<(), Refused> {
     let one_more = [&longest[..], &[1]].concat();
     assert_eq!(pool.run_bytes(&one_more, &mut []), Err(Refused::BadCommand { wrong_at: 2816 }), "the last place there is");
     pool.run_bytes(&longest, &mut [0; 2 * Batch::MOST])
+}
+
+/// A batch of the longest commands, built here.
+#[test]
+fn the_longest_batch_of_spans() -> Result<(), Refused> {
+    let mut batch = Batch::new();
+    while batch.push_count(u32::MAX..=u32::MAX).and_then(|()| batch.push_delete_span(u32::MAX - 1..=u32::MAX)).is_ok() {}
+    let mut bytes = [0; Batch::LONGEST];
+    assert_eq!((batch.len(), batch.write(&mut bytes)), (Batch::MOST, Batch::LONGEST));
+    let mut pool = Pool::prepare(vec![0; Pool::words_for(1)])?;
+    assert_eq!(newly(pool.insert(u32::MAX)?), (u32::MAX, 1));
+    let gone: Vec<u32> = pool
+        .run(&batch)?
+        .map(|answer| match answer {
+            Answer::Count { first: u32::MAX, last: u32::MAX, answer } => answer,
+            Answer::DeleteSpan { first, last: u32::MAX, answer } if first == u32::MAX - 1 => answer,
+            other => panic!("not asked: {other:?}"),
+        })
+        .collect();
+    assert_eq!((&gone[..2], gone[2..].iter().sum()), (&[1, 1][..], 0_u32), "the first two, and then none is left");
+    Ok(())
+}
+
+/// Both ends belong to a span; one that has its ends exchanged, or that was iterated to its end, has no key.
+#[test]
+fn spans_as_ranges() -> Result<(), Refused> {
+    let mut pool = Pool::prepare(vec![0; Pool::words_for(9)])?;
+    for key in [0, 5, 6, u32::MAX] {
+        drop(mark(pool.insert(key)?));
+    }
+    let words = pool.words().to_vec();
+    for (span, keys) in
+        [(5..=6, 2), (5..=5, 1), (0..=5, 2), (0..=0, 1), (6..=u32::MAX, 2), (u32::MAX..=u32::MAX, 1), (0..=u32::MAX, 4), (7..=9, 0)]
+    {
+        assert_eq!(pool.count(span.clone())?, keys, "{span:?}");
+    }
+    #[allow(clippy::reversed_empty_ranges)]
+    let mut none = vec![6..=5, u32::MAX..=0, 1..=0, 5..=4];
+    for mut iterated in [5..=5, 5..=6, 0..=0, u32::MAX..=u32::MAX] {
+        iterated.by_ref().for_each(drop);
+        assert!(iterated.is_empty());
+        none.push(iterated);
+    }
+    let mut from_the_back = 5..=5;
+    assert_eq!(from_the_back.next_back(), Some(5));
+    none.push(from_the_back);
+    for empty in none {
+        assert_eq!((pool.count(empty.clone())?, pool.delete_span(empty.clone())?), (0, 0), "{empty:?}");
+        let mut batch = Batch::new();
+        batch.push_count(empty.clone()).unwrap();
+        batch.push_delete_span(empty.clone()).unwrap();
+        for answer in pool.run(&batch)? {
+            assert!(matches!(answer, Answer::Count { answer: 0, .. } | Answer::DeleteSpan { answer: 0, .. }), "{empty:?}: {answer:?}");
+        }
+    }
+    assert_eq!(pool.words(), words);
+    // what is left of a range that was iterated is a span too
+    let mut rest = 0..=6;
+    assert_eq!(rest.next(), Some(0));
+    assert_eq!((pool.count(rest.clone())?, pool.delete_span(rest)?), (2, 2));
+    assert_eq!((pool.search(5)?, pool.keys()?), (Searched::KeyAbsent, 2));
+    Ok(())
+}
+
+/// The next key from one to the next, to the end of all keys; and a span deleted, which leaves what single deletes leave.
+#[test]
+fn spans_as_types() -> Result<(), Refused> {
+    let (mut pool, _) = p1();
+    assert_eq!([0, 10, 11, 40].map(|key| pool.at_or_above(key)), [10, 10, 20, 40].map(|key| Ok(Found::Key(key))));
+    assert_eq!([pool.at_or_above(41)?, pool.at_or_above(u32::MAX)?], [Found::NoneAbove; 2]);
+    assert_eq!([pool.count(10..=40)?, pool.count(11..=39)?, pool.count(41..=u32::MAX)?], [4, 2, 0]);
+    let (mut singly, _) = p1();
+    assert_eq!((singly.delete(20)?, singly.delete(30)?), (Deleted::Cleared { keys_left: 3 }, Deleted::Cleared { keys_left: 2 }));
+    assert_eq!((pool.delete_span(11..=39)?, pool.delete_span(11..=39)?), (2, 0));
+    assert_eq!(pool.words(), singly.words());
+    pool.audit()
 }
 
 /// What host/README.md says of a place, by the byte there and the one before it.
@@ -213,7 +303,7 @@ fn where_a_batch_goes_wrong() -> Result<(), Refused> {
         (vec![0x82, 0x00, 7], 1, Row::NotShortest),
         // an unknown operation: where its number begins
         (vec![0], 0, Row::CommandBegins),
-        (vec![2, 7, 6, 7], 2, Row::CommandBegins),
+        (vec![2, 7, 9, 7], 2, Row::CommandBegins),
         (vec![2, 7, 0x82, 0x01, 0x80], 2, Row::CommandBegins),
         // the 257th command: where it begins, whatever is in it
         (after_256(&[1, 7]), 512, Row::CommandBegins),
@@ -863,6 +953,7 @@ fn a_damaged_pool_answers_nothing() -> Result<(), Refused> {
         (pool.search(1), pool.delete(1), pool.settle(1), pool.step(1, Kind::One)),
         (Err(refused), Err(refused), Err(refused), Err(refused))
     );
+    assert_eq!((pool.at_or_above(1), pool.count(1..=2), pool.delete_span(1..=2)), (Err(refused), Err(refused), Err(refused)));
     assert!(matches!(pool.insert(1), Err(Refused::RulesBroken)));
     assert!(matches!(pool.run(&Batch::new()), Err(Refused::RulesBroken)));
     assert_eq!((may(&mut pool, Text { notice: 1, resident: 0 }, 1), pool.clear_notice(1)), (Err(refused), Err(refused)));

@@ -53,7 +53,12 @@ fn asked() -> Vec<u8> {
         Command::Step(2, 6),
         Command::Settle(3),
         Command::Delete(10),
+        Command::AtOrAbove(15),
+        Command::Count(5, 20),
         Command::Settle(1000),
+        Command::DeleteSpan(3, 12),
+        Command::Count(0, u32::MAX),
+        Command::DeleteSpan(20, u32::MAX),
     ];
     Command::all(&commands)
 }
@@ -61,7 +66,7 @@ fn asked() -> Vec<u8> {
 /// All that can be asked of the words, and a batch on them, and both calls of the ledger. The audit's code.
 fn examine(words: &[u32], bytes: &[u8]) -> u32 {
     let code = same_on(words);
-    assert_eq!(same_batch(words, bytes, 20), (code, 0));
+    assert_eq!(same_batch(words, bytes, 30), (code, 0));
     for call in [Call::MaySend { notice: 1, resident: 0, limit: 1 }, Call::Clear { notice: 1 }] {
         let ((answered, _), _) = same_call(words, call);
         // A sound pool may have no room.

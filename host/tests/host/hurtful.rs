@@ -1,5 +1,5 @@
-//! Pools made to hurt: shared subtrees, cycles, deep chains; and saved bytes made so. The audit, save, load and may_send stay
-//! linear and the stack small, and kind 1 at the root walks to no leaf.
+//! Pools made to hurt: shared subtrees, cycles, deep chains; and saved bytes made so. The audit, save, load, may_send and a span's count
+//! stay linear and the stack small, and kind 1 at the root walks to no leaf.
 
 use crate::pair::{library_batch, library_call, library_load, library_save, same_call, same_on};
 use crate::pools::{deepest, deepest_from, grown, two_chains, Shape, Weights};
@@ -79,7 +79,7 @@ fn call_all(words: &[u32]) -> u32 {
     let code = raw::audit(&pool);
     let figures: u64 = (1..=7).map(|index| raw::report(&pool, index)).sum();
     assert!(code == 0 || figures == 0);
-    assert_eq!(library_batch(&mut pool, &every_operation(), &mut [0; 10]), (code, 0));
+    assert_eq!(library_batch(&mut pool, &every_operation(), &mut [0; 16]), (code, 0));
     let mut out = vec![0; LONGEST_FORM];
     let (saved, count) = library_save(words, &mut out);
     assert_eq!(saved, code);
@@ -103,7 +103,16 @@ const LONGEST_FORM: usize = 4 + 7 * MOST_SLOTS;
 
 fn every_operation() -> Vec<u8> {
     let far = MOST_SLOTS as u32 / 2;
-    Command::all(&[Command::Search(1), Command::Delete(far), Command::Insert(100_000), Command::Step(1, 3), Command::Settle(3)])
+    Command::all(&[
+        Command::AtOrAbove(far),
+        Command::Count(0, u32::MAX),
+        Command::Search(1),
+        Command::Delete(far),
+        Command::Insert(100_000),
+        Command::Step(1, 3),
+        Command::Settle(3),
+        Command::DeleteSpan(far - 9, far),
+    ])
 }
 
 #[test]
@@ -289,6 +298,22 @@ fn may_send_stays_linear() {
     }
 }
 
+/// One way down or two, and for a count a walk over the tree, beside the audit. (A span that is deleted is as many deletes, each of them a way
+/// down, so that in a chain it is a square, as those deletes are.)
+#[test]
+fn spans_stay_linear() {
+    let all = u32::MAX;
+    for shape in [Shape::ChainRight, Shape::ChainLeft, Shape::Zigzag] {
+        let mut pools = SIZES.map(|slots| deepest(slots, shape).words());
+        for command in [Command::AtOrAbove(all), Command::Count(0, all), Command::Count(3, all - 1), Command::DeleteSpan(all - 1, all)] {
+            let bytes = Command::all(&[command]);
+            assert_linear(&format!("{command:?} on the deepest tree, {shape:?}"), "C", SIZES, |size| {
+                assert_eq!(library_batch(black_box(&mut pools[size]), &bytes, &mut [0; 2]), (0, 0));
+            });
+        }
+    }
+}
+
 /// In a settled pool full of other marks: a clearing that finds nothing does not ask for the 57,344 marks that the notice could
 /// have, and may_send audits once, for its seven searches too are little beside an audit.
 #[test]
@@ -392,7 +417,7 @@ fn bytes_of_stack_for_each_level() {
     let levels = (MOST_SLOTS.div_ceil(2) - smaller.div_ceil(2)) as f64;
     /// Makes the call for so many slots, all that it needs made before.
     type Make = fn(usize) -> Box<dyn Fn() + Send>;
-    let calls: [(&str, f64, Make); 9] = [
+    let calls: [(&str, f64, Make); 10] = [
         ("audit", LEVEL, |slots| {
             let words = deepest(slots, Shape::Zigzag).words();
             Box::new(move || assert_eq!(raw::audit(&words), 0))
@@ -403,7 +428,15 @@ fn bytes_of_stack_for_each_level() {
         }),
         ("batch", LEVEL, |slots| {
             let words = deepest(slots, Shape::Zigzag).words();
-            Box::new(move || assert_eq!(library_batch(&mut words.to_vec(), &every_operation(), &mut [0; 10]), (0, 0)))
+            Box::new(move || assert_eq!(library_batch(&mut words.to_vec(), &every_operation(), &mut [0; 16]), (0, 0)))
+        }),
+        ("count of all keys", LEVEL, |slots| {
+            let words = deepest(slots, Shape::Zigzag).words();
+            Box::new(move || {
+                let mut answer = [7; 2];
+                assert_eq!(library_batch(&mut words.to_vec(), &Command::all(&[Command::Count(0, u32::MAX)]), &mut answer), (0, 0));
+                assert_eq!(answer, [0, slots.div_ceil(2) as u32]);
+            })
         }),
         ("save", SAVED_LEVEL, |slots| {
             let words = deepest(slots, Shape::Zigzag).words();

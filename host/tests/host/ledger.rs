@@ -104,7 +104,7 @@ fn key(notice: u32, resident: u32, attempt: u32) -> u32 {
 }
 
 /// Keys that a sound pool's leaves hold, the smallest first, read straight off its words.
-fn held(words: &[u32]) -> Vec<u32> {
+pub fn held(words: &[u32]) -> Vec<u32> {
     let leaves = words[4..].chunks(4).filter(|slot| slot[1..3] == [0, 0] && slot[3] != u32::MAX);
     let mut keys: Vec<u32> = leaves.map(|slot| slot[0]).collect();
     keys.sort_unstable();
@@ -413,20 +413,39 @@ impl Town {
 
     /// A command that moves no mark, but for steps and settles: its keys are neighbours'.
     fn harmless(&self, rng: &mut Rng, set: &Set) -> Command {
-        match rng.below(6) {
+        match rng.below(10) {
             0 => Command::Search(self.any_key(rng)),
             1 => Command::Insert(self.neighbour(rng)),
             2 => Command::Delete(self.neighbour(rng)),
             3 => Command::Settle(rng.pick(&[0, 1, 3, 100, u32::MAX])),
+            4 => Command::AtOrAbove(self.any_key(rng)),
+            5 => Command::Count(self.any_key(rng), self.any_key(rng)),
+            6 => {
+                let key = self.neighbour(rng);
+                Command::DeleteSpan(key, key)
+            }
+            7 => {
+                // up to the next key of the set: marks may lie in the span, but none that is there
+                let first = self.any_key(rng);
+                match set.in_order().into_iter().find(|&there| there >= first) {
+                    None => Command::DeleteSpan(first, u32::MAX),
+                    Some(next) if next > first => Command::DeleteSpan(first, next - 1),
+                    Some(_) => Command::DeleteSpan(first, 0),
+                }
+            }
             _ => step(rng, set),
         }
     }
 
     /// Marks come and go too.
     fn command(&self, rng: &mut Rng, set: &Set) -> Command {
-        match rng.below(3) {
-            0 => Command::Insert(self.any_key(rng)),
-            1 => Command::Delete(self.any_key(rng)),
+        match rng.below(6) {
+            0 | 1 => Command::Insert(self.any_key(rng)),
+            2 => Command::Delete(self.any_key(rng)),
+            3 => {
+                let key = self.any_key(rng);
+                Command::DeleteSpan(key, key.saturating_add(rng.within(0, 9)))
+            }
             _ => self.harmless(rng, set),
         }
     }

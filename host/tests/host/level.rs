@@ -9,7 +9,7 @@ use crate::rng::Rng;
 use crate::twin::{edge, inner, leaf, Answer, Call, Command, Set, MOST_SLOTS};
 use crate::worked::{after_p1, below_the_root, heavy_beside_red, p8, rotation_case, two_leaves};
 use chromatic::{Pool, Refused};
-use Command::{Delete, Insert, Search, Settle, Step};
+use Command::{AtOrAbove, Count, Delete, DeleteSpan, Insert, Search, Settle, Step};
 
 // Worked by hand. The fourth number of a header is L.
 
@@ -264,6 +264,9 @@ struct Moves {
     steps_that_keep: [u64; 9],
     settles_up: u64,
     settles_down: u64,
+    /// Spans deleted by which it fell, and by which keys went and it stayed.
+    spans_down: u64,
+    spans_that_keep: u64,
     restarts: u64,
 }
 
@@ -283,6 +286,7 @@ impl Moves {
 
     /// One command. Its pool is compared, and L counted off the words, by `Pair::run`.
     fn run(&mut self, pair: &mut Pair, command: Command, seen: &mut Seen) -> Answer {
+        let mut singly = pair.clone();
         let before = pair.words.clone();
         let answer = pair.run_seen(command, seen);
         let (was, is) = (before[3], pair.words[3]);
@@ -290,6 +294,15 @@ impl Moves {
             Settle(_) => {
                 self.settles_up += u64::from(is > was);
                 self.settles_down += u64::from(is < was);
+            }
+            // It moves where the single deletes move it.
+            DeleteSpan(first, last) => {
+                for key in singly.twin.in_order().into_iter().filter(|key| (first..=last).contains(key)) {
+                    self.run(&mut singly, Delete(key), seen);
+                }
+                assert_eq!(is, singly.words[3], "L after {command:?} on {before:?}");
+                self.spans_down += u64::from(is < was);
+                self.spans_that_keep += u64::from(is == was && answer.1 > 0);
             }
             _ if answer.0 == 0 => {
                 let place = Place::of(&before, command);
@@ -315,8 +328,8 @@ impl Moves {
     fn each_met(&self, times: u64) -> bool {
         let Moves { second_keys, deletes_to_0, deletes_to_less, deletes_beside_red, kinds_1_at_root, kinds_6_at_root, .. } = *self;
         let moves = [second_keys, deletes_to_0, deletes_to_less, deletes_beside_red, kinds_1_at_root, kinds_6_at_root];
-        let settles = [self.settles_up, self.settles_down, self.restarts];
-        [&moves[..], &self.steps_that_keep[1..], &settles].concat().iter().all(|&met| met >= times)
+        let others = [self.settles_up, self.settles_down, self.spans_down, self.spans_that_keep, self.restarts];
+        [&moves[..], &self.steps_that_keep[1..], &others].concat().iter().all(|&met| met >= times)
     }
 }
 
@@ -326,9 +339,9 @@ impl Moves {
 fn l_after_every_command() {
     let mut moves = Moves::default();
     let mut run = |rng: &mut Rng, mut pair: Pair, seen: &mut Seen| {
-        let (mix, span) = (rng.pick(&MIXES), pair.twin.slots as u32);
+        let (mix, most) = (rng.pick(&MIXES), pair.twin.slots as u32);
         for _ in 0..100 {
-            let next = command(rng, &pair.twin, &mix, span);
+            let next = command(rng, &pair.twin, &mix, most);
             moves.run(&mut pair, next, seen);
             if rng.one_in(50) {
                 moves.restart(&mut pair);
@@ -391,9 +404,10 @@ fn wrong_words(level: u32) -> Vec<u32> {
 /// By every call that audits: 2, with number 0, and no word or byte is changed.
 fn refused_with_2(words: &[u32]) {
     assert_eq!(same_on(words), 2, "{words:?}");
-    let asked = Command::all(&[Search(10), Insert(25), Delete(10), Step(words[0], 1), Step(words[0], 6), Settle(3)]);
-    for bytes in [&[][..], &asked] {
-        assert_eq!(same_batch(words, bytes, 12), (2, 0), "{words:?}");
+    let updates = [Search(10), Insert(25), Delete(10), Step(words[0], 1), Step(words[0], 6), Settle(3)];
+    let spans = [AtOrAbove(10), Count(10, 30), DeleteSpan(10, 30)];
+    for bytes in [vec![], Command::all(&updates), Command::all(&spans)] {
+        assert_eq!(same_batch(words, &bytes, 12), (2, 0), "{words:?}");
     }
     for room in [0, 8000] {
         assert_eq!(same_save(words, room), ((2, 0), vec![]), "{words:?}");

@@ -16,5 +16,6 @@ mod pools;
 mod random;
 mod rng;
 mod saved;
+mod spans;
 mod twin;
 mod worked;

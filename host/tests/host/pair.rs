@@ -196,10 +196,13 @@ pub fn by_code(codes: &[u64]) -> String {
 pub struct Seen {
     pub commands: u64,
     /// By operation and code.
-    pub codes: [[u64; 13]; 6],
+    pub codes: [[u64; 13]; 9],
     /// Accepted steps by kind.
     pub kinds: [u64; 9],
     pub settle_steps: u64,
+    /// Spans counted, and deleted, by how many keys they have: none, one, more.
+    pub counted: [u64; 3],
+    pub deleted: [u64; 3],
 }
 
 impl Seen {
@@ -209,6 +212,8 @@ impl Seen {
         match command {
             Command::Step(_, kind) if code == 0 => self.kinds[kind as usize] += 1,
             Command::Settle(_) => self.settle_steps += u64::from(number),
+            Command::Count(..) => self.counted[number.min(2) as usize] += 1,
+            Command::DeleteSpan(..) => self.deleted[number.min(2) as usize] += 1,
             _ => {}
         }
     }

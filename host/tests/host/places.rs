@@ -7,7 +7,7 @@ use crate::rng::Rng;
 use crate::saved::every_string;
 use crate::twin::{Command, MOST_SLOTS};
 use std::alloc::{alloc_zeroed, dealloc, Layout};
-use Command::{Delete, Insert, Search, Settle, Step};
+use Command::{AtOrAbove, Count, Delete, DeleteSpan, Insert, Search, Settle, Step};
 
 /// A bad command, and at which of its bytes it goes wrong.
 type Bad = (&'static str, usize, &'static [u8]);
@@ -16,14 +16,19 @@ type Bad = (&'static str, usize, &'static [u8]);
 #[rustfmt::skip]
 const OPERATIONS: &[Bad] = &[
     ("operation 0", 0, &[0x00]),
-    ("operation 6", 0, &[0x06]),
-    ("operation 6 with an argument", 0, &[0x06, 0x0A]),
-    ("operation 6 with an argument cut short", 0, &[0x06, 0x80]),
-    ("operation 6 with an argument in two bytes", 0, &[0x06, 0x8A, 0x00]),
+    ("operation 9", 0, &[0x09]),
+    ("operation 9 with an argument", 0, &[0x09, 0x0A]),
+    ("operation 9 with an argument cut short", 0, &[0x09, 0x80]),
+    ("operation 9 with an argument in two bytes", 0, &[0x09, 0x8A, 0x00]),
+    ("operation 9 with two arguments", 0, &[0x09, 0x0A, 0x14]),
+    ("operation 10", 0, &[0x0A]),
+    ("operation 15", 0, &[0x0F, 0x0A]),
+    ("operation 16", 0, &[0x10, 0x0A, 0x14]),
     ("operation 0 with an argument above 32 bits", 0, &[0x00, 0xFF, 0xFF, 0xFF, 0xFF, 0x10]),
     ("operation 127", 0, &[0x7F]),
     ("operation 128", 0, &[0x80, 0x01]),
     ("operation 129, whose lowest group is a search's", 0, &[0x81, 0x01, 0x0A]),
+    ("operation 136, whose lowest group is a span's", 0, &[0x88, 0x01, 0x0A, 0x14]),
     ("operation 16,384", 0, &[0x80, 0x80, 0x01]),
     ("operation 2 to the power 28 and 1", 0, &[0x81, 0x80, 0x80, 0x80, 0x01]),
     ("operation 4,026,531,840", 0, &[0x80, 0x80, 0x80, 0x80, 0x0F]),
@@ -37,6 +42,10 @@ const OPERATIONS: &[Bad] = &[
     ("operation 1 in five bytes", 4, &[0x81, 0x80, 0x80, 0x80, 0x00]),
     ("operation 0 in two bytes", 1, &[0x80, 0x00]),
     ("operation 6 in two bytes", 1, &[0x86, 0x00]),
+    ("operation 6 in two bytes with an argument", 1, &[0x86, 0x00, 0x0A]),
+    ("operation 7 in three bytes", 2, &[0x87, 0x80, 0x00]),
+    ("operation 8 in two bytes with two arguments", 1, &[0x88, 0x00, 0x0A, 0x14]),
+    ("operation 9 in two bytes", 1, &[0x89, 0x00]),
     ("operation 128 in three bytes", 2, &[0x80, 0x81, 0x00]),
     ("operation 0 in five bytes", 4, &[0x80, 0x80, 0x80, 0x80, 0x00]),
     ("an operation of one byte that has no end", 1, &[0x81]),
@@ -76,22 +85,30 @@ const NUMBERS: &[Bad] = &[
 
 const LONGEST: [u8; 11] = [4, 0xFF, 0xFF, 0xFF, 0xFF, 0x0F, 0xFF, 0xFF, 0xFF, 0xFF, 0x0F];
 
+/// Operations with two: step, count, delete of a span.
+const TWO_ARGUMENTS: [u8; 3] = [4, 7, 8];
+
 /// Each bad command by name: of its operation's number, of its first argument, of its second.
 fn bad_commands() -> Vec<(String, usize, Vec<u8>)> {
     let mut bad: Vec<(String, usize, Vec<u8>)> = OPERATIONS.iter().map(|&(name, at, bytes)| (name.into(), at, bytes.into())).collect();
-    let beginnings: [&[u8]; 10] =
-        [&[1], &[2], &[3], &[4], &[5], &[4, 0], &[4, 1], &[4, 0x80, 0x01], &LONGEST[..6], &[4, 0x80, 0x80, 0x80, 0x80, 0x01]];
-    for beginning in beginnings {
+    let one_byte = (1..=8).map(|operation| vec![operation]);
+    let first_arguments: [&[u8]; 5] = [&[0], &[1], &[0x80, 0x01], &LONGEST[1..6], &[0x80, 0x80, 0x80, 0x80, 0x01]];
+    let with_second = TWO_ARGUMENTS.iter().flat_map(|&operation| first_arguments.map(|first| [&[operation], first].concat()));
+    for beginning in one_byte.chain(with_second) {
+        let beginning = &beginning[..];
         for &(name, at, number) in NUMBERS {
             let which = if beginning.len() == 1 { "first" } else { "second" };
             let name = format!("operation {}, its {which} argument {name}", beginning[0]);
             bad.push((name, beginning.len() + at, [beginning, number].concat()));
         }
     }
-    // A slot that does not read, and after it a kind that does not, or one that does.
-    for &(name, at, number) in NUMBERS.iter().filter(|(_, at, number)| *at < number.len()) {
-        for kind in [&[3][..], &[0x83, 0x00], &[0x80], &[0xFF, 0xFF, 0xFF, 0xFF, 0x10]] {
-            bad.push((format!("a slot {name}, and a kind of {kind:02X?}"), 1 + at, [&[4], number, kind].concat()));
+    // A first argument that does not read, and after it a second that does not, or one that does.
+    for operation in TWO_ARGUMENTS {
+        for &(name, at, number) in NUMBERS.iter().filter(|(_, at, number)| *at < number.len()) {
+            for second in [&[3][..], &[0x83, 0x00], &[0x80], &[0xFF, 0xFF, 0xFF, 0xFF, 0x10]] {
+                let name = format!("operation {operation}, its first argument {name}, and a second of {second:02X?}");
+                bad.push((name, 1 + at, [&[operation], number, second].concat()));
+            }
         }
     }
     bad
@@ -175,7 +192,11 @@ fn no_place_is_above_2816() {
         (&[4, 0xFF, 0xFF, 0xFF, 0xFF, 0x0F, 0xFF, 0xFF, 0xFF, 0xFF, 0x10], 2815),
         (&[4, 0xFF, 0xFF, 0xFF, 0xFF, 0x0F, 0xFF, 0xFF, 0xFF, 0xFF, 0x00], 2815),
         (&[4, 0xFF, 0xFF, 0xFF, 0xFF, 0x10, 0xFF, 0xFF, 0xFF, 0xFF, 0x0F], 2810),
-        (&[6, 0xFF, 0xFF, 0xFF, 0xFF, 0x10, 0xFF, 0xFF, 0xFF, 0xFF, 0x0F], 2805),
+        (&[9, 0xFF, 0xFF, 0xFF, 0xFF, 0x10, 0xFF, 0xFF, 0xFF, 0xFF, 0x0F], 2805),
+        (&[8, 0xFF, 0xFF, 0xFF, 0xFF, 0x0F, 0xFF, 0xFF, 0xFF, 0xFF], 2815),
+        (&[8, 0xFF, 0xFF, 0xFF, 0xFF, 0x0F, 0xFF, 0xFF, 0xFF, 0xFF, 0x10], 2815),
+        (&[7, 0xFF, 0xFF, 0xFF, 0xFF, 0x0F, 0xFF, 0xFF, 0xFF, 0xFF, 0x00], 2815),
+        (&[7, 0xFF, 0xFF, 0xFF, 0xFF, 0x10, 0xFF, 0xFF, 0xFF, 0xFF, 0x0F], 2810),
     ] {
         assert_eq!(same_batch(&words, &[&longest, last].concat(), 512), (3, place));
     }
@@ -188,7 +209,7 @@ fn no_place_is_above_2816() {
             vec![0x80; len],
             vec![0xFF; len],
             vec![0; len],
-            (0..len).map(|_| rng.within(1, 5) as u8).collect::<Vec<u8>>(),
+            (0..len).map(|_| rng.within(1, 8) as u8).collect::<Vec<u8>>(),
             (0..len).map(|_| rng.next() as u8).collect(),
         ] {
             let (code, place) = same_batch(&words, &bytes, 0);
@@ -201,12 +222,14 @@ fn no_place_is_above_2816() {
 fn small_batches() -> Vec<Vec<Command>> {
     let mut small: Vec<Vec<Command>> = vec![];
     for number in [0, 10, 127, 128, 16_384, 1 << 21, 1 << 28, u32::MAX] {
-        small.extend([Search(number), Insert(number), Delete(number), Settle(number)].map(|command| vec![command]));
+        small.extend([Search(number), Insert(number), Delete(number), Settle(number), AtOrAbove(number)].map(|command| vec![command]));
         small.push(vec![Step(1, number)]);
+        small.extend([Count(15, number), DeleteSpan(number, 30)].map(|command| vec![command]));
         small.push(vec![Step(number, 3), Search(10)]);
         small.push(vec![Insert(50), Step(number, number), Delete(number)]);
     }
     small.push(vec![Search(300), Insert(20), Delete(300), Step(1, 3), Settle(300)]);
+    small.push(vec![AtOrAbove(300), Count(10, 300), DeleteSpan(20, 300), Count(300, 10)]);
     small
 }
 
@@ -244,7 +267,7 @@ fn small_batches_one_byte_away() {
             }
             bytes.remove(at);
             tried(&bytes);
-            for value in [0, 1, 4, 6, 0x0F, 0x10, 0x7F, 0x80, 0x8F, 0xFF] {
+            for value in [0, 1, 4, 6, 8, 9, 0x0F, 0x10, 0x7F, 0x80, 0x8F, 0xFF] {
                 tried(&[&own[..at], &[value], &own[at..]].concat());
             }
             for other in at + 1..own.len() {
@@ -259,7 +282,7 @@ fn small_batches_one_byte_away() {
 }
 
 /// Bytes that tell a reader of numbers and operations.
-const TELLING: [u8; 13] = [0x00, 0x01, 0x02, 0x04, 0x06, 0x0F, 0x10, 0x7F, 0x80, 0x81, 0x8F, 0x90, 0xFF];
+const TELLING: [u8; 15] = [0x00, 0x01, 0x02, 0x04, 0x06, 0x08, 0x09, 0x0F, 0x10, 0x7F, 0x80, 0x81, 0x8F, 0x90, 0xFF];
 
 /// All strings of up to four telling bytes, and of up to three after beginnings that lead to a fifth byte of a number.
 fn every_telling_string(beginnings: &[&[u8]], mut tried: impl FnMut(&[u8])) {
@@ -285,9 +308,11 @@ fn every_short_batch() {
     let words = after_p1();
     let mut seen = [0u32; 5];
     let mut places = [0u32; 12];
-    let beginnings: [&[u8]; 7] = [
+    let beginnings: [&[u8]; 9] = [
         &[0x81, 0x80, 0x80],
         &[0xFF, 0xFF, 0xFF, 0xFF],
+        &[7, 0xFF, 0xFF, 0xFF],
+        &[8, 10, 0x80, 0x80, 0x80],
         &[1, 0x80, 0x80, 0x80],
         &[4, 0xFF, 0xFF, 0xFF],
         &[4, 1, 0x80, 0x80, 0x80],
@@ -357,8 +382,19 @@ fn bad_commands_among_good_ones() {
                 bytes.extend(command);
             } else {
                 let number = rng.next() as u32 >> rng.below(32);
-                rng.pick(&[Search(number), Insert(number), Delete(number), Step(number, 3), Step(1, number), Settle(number % 8)])
-                    .write(&mut bytes);
+                let other = rng.next() as u32 >> rng.below(32);
+                rng.pick(&[
+                    Search(number),
+                    Insert(number),
+                    Delete(number),
+                    Step(number, 3),
+                    Step(1, number),
+                    Settle(number % 8),
+                    AtOrAbove(number),
+                    Count(number, other),
+                    DeleteSpan(number, other),
+                ])
+                .write(&mut bytes);
             }
             if want.is_none() && (piece == 256 || is_bad) {
                 want = Some(if piece == 256 { begin } else { begin + at });

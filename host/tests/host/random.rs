@@ -4,7 +4,7 @@ use crate::pair::{library_batch, overweight, same_batch, Pair, Seen};
 use crate::pools::{grown, some_keys, Weights, SHAPES, WEIGHTS};
 use crate::rng::Rng;
 use crate::twin::{write_number, Command, Set, MOST_SLOTS};
-use std::collections::HashSet;
+use std::collections::{BTreeSet, HashSet};
 use std::ops::RangeInclusive;
 use std::time::Instant;
 
@@ -42,11 +42,11 @@ pub fn compared(test: &str, first: u64, usual: u64, mut once: impl FnMut(&mut Rn
 }
 
 /// Mostly keys that are near each other, sometimes far ones.
-fn key(rng: &mut Rng, span: u32) -> u32 {
+fn key(rng: &mut Rng, most: u32) -> u32 {
     if rng.one_in(16) {
         rng.pick(&[0, 1, 127, 128, 16_383, 16_384, 1 << 28, i32::MAX as u32, u32::MAX - 1, u32::MAX])
     } else {
-        rng.within(0, span)
+        rng.within(0, most)
     }
 }
 
@@ -78,12 +78,43 @@ fn some_inner_slot(rng: &mut Rng, set: &Set) -> u32 {
     found
 }
 
-/// How likely each operation is: search, insert, delete, step, settle.
-pub type Mix = [usize; 5];
-pub const MIXES: [Mix; 7] =
-    [[1, 1, 1, 1, 1], [1, 4, 1, 2, 0], [1, 1, 4, 2, 0], [0, 3, 2, 0, 1], [0, 1, 1, 8, 0], [1, 0, 0, 1, 1], [0, 4, 3, 0, 0]];
+/// A first and a last key: mostly of a few keys, with an end at 0 or at the last number, all keys, or none since the first is above the last.
+pub fn span(rng: &mut Rng, most: u32) -> (u32, u32) {
+    let (a, b) = (key(rng, most), key(rng, most));
+    match rng.below(16) {
+        0 => (0, a.min(b)),
+        1 => (a.max(b), u32::MAX),
+        2 => (0, u32::MAX),
+        3 => (a.min(b), a.max(b)),
+        4 => (a.max(b), a.min(b)),
+        5 => (a, a),
+        6 => (b, b.wrapping_sub(1)),
+        _ => (a, a.saturating_add(rng.below(most as usize / 8 + 2) as u32)),
+    }
+}
 
-pub fn command(rng: &mut Rng, set: &Set, mix: &Mix, span: u32) -> Command {
+/// These keys and their neighbours, and the ends of all keys, ascending.
+pub fn near(keys: &[u32]) -> Vec<u32> {
+    let near = keys.iter().flat_map(|&key| [key.saturating_sub(1), key, key.saturating_add(1)]);
+    let all: BTreeSet<u32> = near.chain([0, u32::MAX]).collect();
+    all.into_iter().collect()
+}
+
+/// How likely each operation is, in the order of their numbers.
+pub type Mix = [usize; 8];
+pub const MIXES: [Mix; 9] = [
+    [1, 1, 1, 1, 1, 1, 1, 0],
+    [1, 4, 1, 2, 0, 0, 0, 0],
+    [1, 1, 4, 2, 0, 0, 0, 0],
+    [0, 3, 2, 0, 1, 0, 0, 0],
+    [0, 1, 1, 8, 0, 0, 0, 0],
+    [1, 0, 0, 1, 1, 1, 2, 0],
+    [0, 4, 3, 0, 0, 0, 0, 0],
+    [0, 9, 1, 2, 1, 1, 1, 1],
+    [1, 5, 0, 0, 0, 1, 1, 2],
+];
+
+pub fn command(rng: &mut Rng, set: &Set, mix: &Mix, most: u32) -> Command {
     let mut ticket = rng.below(mix.iter().sum());
     let operation = mix.iter().position(|&share| {
         let mine = ticket < share;
@@ -91,23 +122,32 @@ pub fn command(rng: &mut Rng, set: &Set, mix: &Mix, span: u32) -> Command {
         mine
     });
     match operation {
-        Some(0) => Command::Search(key(rng, span)),
-        Some(1) => Command::Insert(key(rng, span)),
-        Some(2) => Command::Delete(key(rng, span)),
+        Some(0) => Command::Search(key(rng, most)),
+        Some(1) => Command::Insert(key(rng, most)),
+        Some(2) => Command::Delete(key(rng, most)),
         Some(3) => step(rng, set),
-        _ => Command::Settle(rng.pick(&[0, 1, 2, 3, 7, 100, u32::MAX])),
+        Some(4) => Command::Settle(rng.pick(&[0, 1, 2, 3, 7, 100, u32::MAX])),
+        Some(5) => Command::AtOrAbove(key(rng, most)),
+        Some(6) => {
+            let (first, last) = span(rng, most);
+            Command::Count(first, last)
+        }
+        _ => {
+            let (first, last) = span(rng, most);
+            Command::DeleteSpan(first, last)
+        }
     }
 }
 
 /// Commands one at a time, the mix changing on the way.
-fn run_singly(rng: &mut Rng, pair: &mut Pair, count: usize, span: u32, seen: &mut Seen) {
+fn run_singly(rng: &mut Rng, pair: &mut Pair, count: usize, most: u32, seen: &mut Seen) {
     let mut mix = &MIXES[0];
     for i in 0..count {
         if i % 100 == 0 {
             mix = &MIXES[rng.below(MIXES.len())];
             pair.look();
         }
-        let next = command(rng, &pair.twin, mix, span);
+        let next = command(rng, &pair.twin, mix, most);
         pair.run_seen(next, seen);
     }
     pair.look();
@@ -123,15 +163,19 @@ fn small_pools_one_command_at_a_time() {
         }
     });
     assert!(share() > 1 || seen.commands >= 1_000_000, "a million commands");
-    let Seen { codes, kinds, .. } = seen;
-    println!("compared codes by operation (search, insert, delete, step, settle): {:?}", &codes[1..]);
+    let Seen { codes, kinds, counted, deleted, .. } = seen;
+    println!("compared codes by operation (search, insert, delete, step, settle, at_or_above, count, delete_span): {:?}", &codes[1..]);
     println!("compared steps accepted by kind: {:?}", &kinds[1..]);
-    for (operation, wanted) in [(1, &[0, 6][..]), (2, &[0, 5, 7]), (3, &[0, 6]), (4, &[0, 8, 9, 10]), (5, &[0, 12])] {
+    println!("compared spans of no, one and more keys: {counted:?} counted, {deleted:?} deleted");
+    for (operation, wanted) in
+        [(1, &[0, 6][..]), (2, &[0, 5, 7]), (3, &[0, 6]), (4, &[0, 8, 9, 10]), (5, &[0, 12]), (6, &[0, 6]), (7, &[0]), (8, &[0])]
+    {
         for &code in wanted {
             assert!(share() > 1 || codes[operation][code] > 1000, "operation {operation} was answered {code} too rarely");
         }
     }
     assert!(share() > 1 || kinds[1..].iter().all(|&k| k > 100), "each kind is accepted");
+    assert!(share() > 1 || [counted, deleted].as_flattened().iter().all(|&spans| spans > 1000), "spans of all sizes are met");
 }
 
 /// Every pool that moves lead to from an empty one of few slots, and on each of them every move. How many pools those are.
@@ -159,6 +203,9 @@ fn every_pool(slots: usize, keys: &[u32]) {
     let mut commands: Vec<Command> = (0..=slots as u32 + 1).flat_map(|s| (0..=9).map(move |k| Command::Step(s, k))).collect();
     commands.extend([0, 1, u32::MAX].map(Command::Settle));
     commands.extend(keys.iter().flat_map(|&key| [Command::Search(key), Command::Insert(key), Command::Delete(key)]));
+    let ends = near(keys);
+    commands.extend(ends.iter().map(|&key| Command::AtOrAbove(key)));
+    commands.extend(ends.iter().flat_map(|&a| ends.iter().flat_map(move |&b| [Command::Count(a, b), Command::DeleteSpan(a, b)])));
     let mut seen = Seen::default();
     let pools = every_reached(slots, &commands, |pair, command| {
         pair.run_seen(command, &mut seen);
@@ -180,7 +227,7 @@ fn every_small_pool() {
 /// Sound pools of all shapes and weights, L up to 255, full ones among them.
 #[test]
 fn grown_pools() {
-    let seen = compared("grown pools", 1000, 40, |rng, seen| {
+    let seen = compared("grown pools", 1000, 60, |rng, seen| {
         for shape in SHAPES {
             for weights in WEIGHTS {
                 let slots: usize = rng.pick(&[3, 9, 21, 41, 80]);
@@ -218,6 +265,14 @@ fn steps_end_within_the_bound() {
                     if allowed.is_empty() {
                         break;
                     }
+                    // 02 (vii): deleting a span without a key is no update, and the bound stands.
+                    if rng.below(4) == 0 {
+                        let key = rng.within(0, 120);
+                        let first = if pair.twin.in_order().contains(&key) { key + 1 } else { key };
+                        let words = pair.words.clone();
+                        pair.run_seen(Command::DeleteSpan(first, key), seen);
+                        assert_eq!(pair.words, words, "no key from {first} to {key}");
+                    }
                     let (slot, kind) = rng.pick(&allowed);
                     pair.run_seen(Command::Step(slot, kind), seen);
                     taken += 1;
@@ -249,9 +304,9 @@ fn excess_weight_is_read_off_the_words() {
     };
     let mut run = |rng: &mut Rng, mut pair: Pair, seen: &mut Seen| {
         hold(&pair);
-        let (mix, span) = (rng.pick(&MIXES), pair.twin.slots as u32);
+        let (mix, most) = (rng.pick(&MIXES), pair.twin.slots as u32);
         for _ in 0..100 {
-            let next = command(rng, &pair.twin, &mix, span);
+            let next = command(rng, &pair.twin, &mix, most);
             pair.run_seen(next, seen);
             hold(&pair);
         }
@@ -308,9 +363,9 @@ fn largest_grown_pools() {
     });
 }
 
-fn some_commands(rng: &mut Rng, set: &Set, count: usize, span: u32) -> Vec<Command> {
+fn some_commands(rng: &mut Rng, set: &Set, count: usize, most: u32) -> Vec<Command> {
     let mix = rng.pick(&MIXES);
-    (0..count).map(|_| command(rng, set, &mix, span)).collect()
+    (0..count).map(|_| command(rng, set, &mix, most)).collect()
 }
 
 /// Batches of many commands: the whole at once is the same as one at a time.
@@ -341,7 +396,7 @@ fn spoiled(rng: &mut Rng, commands: &[Command]) -> Vec<u8> {
     for (i, command) in commands.iter().enumerate() {
         let mut numbers = command.numbers();
         if i == unlucky && way == 0 {
-            numbers[0] = rng.pick(&[0, 6, 7, 8, 127, 128, 133, 256 + 1, u32::MAX]);
+            numbers[0] = rng.pick(&[0, 9, 10, 15, 127, 128, 136, 256 + 1, u32::MAX]);
         }
         let wrong = rng.below(numbers.len());
         for (place, &number) in numbers.iter().enumerate() {
@@ -404,7 +459,7 @@ fn noise_as_a_batch() {
         let words = Pair::prepared(9).words;
         for _ in 0..500 {
             let len = rng.below(24);
-            let bytes: Vec<u8> = (0..len).map(|_| if rng.one_in(3) { rng.next() as u8 } else { rng.within(0, 6) as u8 }).collect();
+            let bytes: Vec<u8> = (0..len).map(|_| if rng.one_in(3) { rng.next() as u8 } else { rng.within(0, 9) as u8 }).collect();
             let room = rng.below(30);
             same_batch(&words, &bytes, room);
             seen.commands += 1;

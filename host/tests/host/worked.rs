@@ -302,7 +302,7 @@ fn order_of_refusals() {
     let mut broken = good.clone();
     broken[3] = 0; // L is 1
     let short = &broken[..39];
-    let bad_command = [2, 77, 1, 10, 6];
+    let bad_command = [2, 77, 1, 10, 9];
     for (words, bytes, room, want) in [
         (short, &bad_command[..], 0, (1, 0)),
         (&broken, &bad_command, 0, (3, 4)),

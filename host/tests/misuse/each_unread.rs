@@ -21,6 +21,9 @@ pub fn tell(pool: &mut Pool<impl Words>) -> Result<u32, Refused> {
     pool.delete(7)?; // FAULT
     pool.step(1, KIND)?; // FAULT
     pool.settle(9)?; // FAULT
+    pool.at_or_above(7)?; // FAULT
+    pool.count(7..=9); // FAULT
+    pool.delete_span(7..=9); // FAULT
     answer(); // FAULT
     mark(pool.insert(7)?); // FAULT
     pool.audit().expect_err("a damaged pool"); // FAULT

@@ -205,6 +205,9 @@ fn table(count: usize) {
     );
     race(&mut sets, &back, Race { what: "insert, half of the keys (net)", before: &gone, work: &back, units: back.len(), net: true });
     race(&mut sets, &back, Race { what: "delete, half of the keys (net)", before: &back, work: &gone, units: gone.len(), net: true });
+    if count > SPANNED {
+        span_rows(&mut sets[..3], &mut rng, &spread);
+    }
     let commands = turns(&mut rng, &keys);
     for size in [1, 16, 256] {
         // A call of one command is mostly audit, and takes long enough with fewer of them.
@@ -216,6 +219,41 @@ fn table(count: usize) {
     race_pools("report's seventh number, a call", &mut sets, |set| set.pooled().map_or(0, |p| (p.report)(black_box(&p.words), 7)));
     saved_rows(&keys);
     ledger_rows(&mut rng, count);
+}
+
+/// Keys that the spans of a row have together, at most, and those that each of them has.
+const SPANNED: usize = 256;
+const SPANS: [usize; 3] = [1, 16, SPANNED];
+
+/// Operations 6 to 8 of the pools and the BTreeSet, which hold these ascending keys: `range(key..).next()`, `range(first..=last).count()`, and
+/// for a delete the range collected and each of its keys removed.
+fn span_rows(sets: &mut [Box<dyn Set>], rng: &mut Rng, keys: &[u32]) {
+    let nothing = Work::new(vec![], 1);
+    // The key itself, or one that is not there a little below it.
+    let near = |rng: &mut Rng, at: usize| keys[at] - rng.below(13) as u32;
+    let next_key = |_| {
+        let at = rng.below(keys.len());
+        Command::AtOrAbove { key: near(rng, at) }
+    };
+    let next = Work::new((0..MIX).map(next_key).collect(), 256);
+    let what = "at_or_above, in a batch of 256 (net)";
+    race(sets, &nothing, Race { what, before: &nothing, work: &next, units: next.len(), net: true });
+    for size in SPANS {
+        let spans = (MIX / size).max(256);
+        let places: Vec<usize> = (0..spans).map(|_| rng.below(keys.len() - size + 1)).collect();
+        let counts = places.iter().map(|&at| Command::Count { first: near(rng, at), last: keys[at + size - 1] }).collect();
+        let counts = Work::new(counts, 256);
+        let what = format!("count, {size} of {} keys, a span (net)", keys.len());
+        race(sets, &nothing, Race { what: &what, before: &nothing, work: &counts, units: spans, net: true });
+    }
+    for size in SPANS {
+        // Every second span of so many keys.
+        let spans: Vec<&[u32]> = keys.chunks(size).step_by(2).take(SPANNED / size).collect();
+        let deletes = spans.iter().map(|span| Command::DeleteSpan { first: span[0], last: span[span.len() - 1] }).collect();
+        let (deletes, back) = (Work::new(deletes, 256), Work::new(each(&spans.concat(), insert), 256));
+        let what = format!("delete_span, {size} of {} keys, a span (net)", keys.len());
+        race(sets, &back, Race { what: &what, before: &back, work: &deletes, units: spans.len(), net: true });
+    }
 }
 
 /// Both pools with these keys, inserted in this order and settled.

@@ -43,6 +43,9 @@ fn number_and_key(command: Command) -> (u32, u32) {
         Command::Delete { key } => (3, key),
         Command::Step { slot, .. } => (4, slot),
         Command::Settle { budget } => (5, budget),
+        Command::AtOrAbove { key } => (6, key),
+        Command::Count { first, .. } => (7, first),
+        Command::DeleteSpan { first, .. } => (8, first),
         other => unreachable!("{other:?} is not timed"),
     }
 }
@@ -184,6 +187,12 @@ impl Set for BTreeSet<u32> {
             Command::Search { key } => self.contains(key),
             Command::Insert { key } => self.insert(*key),
             Command::Delete { key } => self.remove(key),
+            Command::AtOrAbove { key } => black_box(self.range(key..).next()).is_some(),
+            Command::Count { first, last } => black_box(self.range(first..=last).count()) <= self.len(),
+            Command::DeleteSpan { first, last } => {
+                let gone: Vec<u32> = self.range(first..=last).copied().collect();
+                gone.iter().all(|key| self.remove(key))
+            }
             _ => unreachable!("a set takes no steps"),
         };
         work.commands.iter().map(one).filter(|&good| good).count() as u64

@@ -41,6 +41,24 @@ enum-told-5 c = search needs
 settle-under-requires : tie.Need-settle-under-requires
 settle-under-requires c κs = search needs
 
+enum-told-6 : tie.Need-enum-told-6
+enum-told-6 c = search needs
+
+at-or-above-requires : tie.Need-at-or-above-requires
+at-or-above-requires c κs = search needs
+
+enum-told-7 : tie.Need-enum-told-7
+enum-told-7 c = search needs
+
+count-under-requires : tie.Need-count-under-requires
+count-under-requires c κs = search needs
+
+enum-told-8 : tie.Need-enum-told-8
+enum-told-8 c = search needs
+
+delete-span-under-requires : tie.Need-delete-span-under-requires
+delete-span-under-requires c κs = search needs
+
 same-length : tie.Need-same-length
 same-length c = search needs
 
@@ -76,6 +94,27 @@ returns-5 : tie.Need-returns-5
 unfolding performOn operated
 returns-5 c = rw (c .before .before .before .before .enum-told5 .given .1) (c .before .before .settle-under .ensures)
 
+same-length-6 : tie.Need-same-length-6
+same-length-6 c = search needs
+
+returns-6 : tie.Need-returns-6
+unfolding performOn operated
+returns-6 c = rw (c .before .before .enum-told6 .given .1) (same-header _ (c .at-or-above .ensures), refl)
+
+same-length-7 : tie.Need-same-length-7
+same-length-7 c = search needs
+
+returns-7 : tie.Need-returns-7
+unfolding performOn operated
+returns-7 c = rw (c .before .before .enum-told7 .given .1) (same-header _ (c .count-under .ensures), refl)
+
+same-length-8 : tie.Need-same-length-8
+same-length-8 c = search needs
+
+returns-8 : tie.Need-returns-8
+unfolding performOn operated
+returns-8 c = rw (c .before .before .before .before .enum-told8 .given .1) (c .before .before .delete-span-under .ensures)
+
 pub perform-spec : {M : Type 1} → statement M
 perform-spec =
     tie.close
@@ -90,6 +129,12 @@ perform-spec =
     step-under-requires
     enum-told-5
     settle-under-requires
+    enum-told-6
+    at-or-above-requires
+    enum-told-7
+    count-under-requires
+    enum-told-8
+    delete-span-under-requires
     same-length
     returns
     same-length-2
@@ -99,4 +144,10 @@ perform-spec =
     same-length-4
     returns-4
     same-length-5
-    returns-5)
+    returns-5
+    same-length-6
+    returns-6
+    same-length-7
+    returns-7
+    same-length-8
+    returns-8)

@@ -1,5 +1,8 @@
 -- `at_or_above` meets its contract: each return is the case of `atOrAbove` and `nextAt` that the tests before it pick, at what the calls
 -- ensure. Assumes nothing.
+use mathlib.Core.Path.{ap}
+use Rattle.tree.specs.declared.Answer.the-variants.{Done}
+use Rattle.format.specs.declared.Slot.{Slot}
 use Rattle.spans.specs.Spanning.{atOrAbove, nextAt}
 use borrow.Author.Tests.{eq-eqb, ne-eqb, le-leb, lt-leb}
 use borrow.Author.Needs.{needs}
@@ -25,7 +28,11 @@ returns-2 c = rw (ne-eqb _ _ (c .before .before .before .before .before .if1 .le
 
 returns-3 : tie.Need-returns-3
 unfolding atOrAbove nextAt
-returns-3 c = rw (ne-eqb _ _ (c .before .before .before .before .if1 .left), atOrAbove, le-leb _ _ (rw (c .before .before .get-slot .ensures, c .before .before .before .turns .ensures) at (c .if2 .left)), nextAt, c .before .before .get-slot .ensures, c .before .before .before .turns .ensures)
+returns-3 c =
+    let got = c .before .before in
+    let read = rw (got .before .turns .ensures) at (got .get-slot .ensures) in
+    rw (ne-eqb _ _ (got .before .before .if1 .left), atOrAbove, le-leb _ _ (rw read at (c .if2 .left)), nextAt)
+    (ap (λ (d : Slot). Done (d .key)) read)
 
 pub at-or-above-spec : {M : Type 1} → statement M
 at-or-above-spec = tie.close (tie.spec returns turns-requires get-slot-requires next-beside-requires returns-2 returns-3)

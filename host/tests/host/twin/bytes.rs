@@ -7,6 +7,9 @@ pub enum Command {
     Delete(u32),
     Step(u32, u32),
     Settle(u32),
+    AtOrAbove(u32),
+    Count(u32, u32),
+    DeleteSpan(u32, u32),
 }
 
 const MOST_COMMANDS: usize = 256;
@@ -74,6 +77,10 @@ pub fn commands(bytes: &[u8]) -> Result<Vec<Command>, usize> {
             3 => Command::Delete(next()?),
             4 => Command::Step(next()?, next()?),
             5 => Command::Settle(next()?),
+            // 02 (vii): "Three new batch commands"
+            6 => Command::AtOrAbove(next()?),
+            7 => Command::Count(next()?, next()?),
+            8 => Command::DeleteSpan(next()?, next()?),
             // "An unknown operation number gives the byte where its number begins"
             _ => return Err(begin),
         });
@@ -101,6 +108,9 @@ impl Command {
             Command::Delete(key) => vec![3, key],
             Command::Step(slot, kind) => vec![4, slot, kind],
             Command::Settle(budget) => vec![5, budget],
+            Command::AtOrAbove(key) => vec![6, key],
+            Command::Count(a, b) => vec![7, a, b],
+            Command::DeleteSpan(a, b) => vec![8, a, b],
         }
     }
 

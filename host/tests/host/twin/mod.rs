@@ -6,6 +6,7 @@ mod bytes;
 mod figures;
 mod ledger;
 mod saved;
+mod spans;
 mod steps;
 
 pub use audit::{audit, read};
@@ -192,6 +193,9 @@ impl Set {
             Command::Delete(key) => self.delete(key),
             Command::Step(slot, kind) => self.step(slot, kind),
             Command::Settle(budget) => self.settle(budget),
+            Command::AtOrAbove(key) => self.at_or_above(key),
+            Command::Count(a, b) => self.count(a, b),
+            Command::DeleteSpan(a, b) => self.delete_span(a, b),
         }
     }
 
