@@ -43,9 +43,9 @@ forms =
     ∷ (7 ∷ 128 ∷ 128 ∷ 128 ∷ 128 ∷ 128 ∷ [])
     -- more nodes than bytes, as many as a number can say
     ∷ (7 ∷ 255 ∷ 255 ∷ 255 ∷ 255 ∷ 15 ∷ 2 ∷ 5 ∷ [])
-    -- C 0, C 1,024; N above C; N even
+    -- C 0, C 16,384; N above C; N even
     ∷ (0 ∷ 0 ∷ [])
-    ∷ (128 ∷ 8 ∷ 0 ∷ [])
+    ∷ (128 ∷ 128 ∷ 1 ∷ 0 ∷ [])
     ∷ (1 ∷ 3 ∷ 3 ∷ 5 ∷ 2 ∷ 5 ∷ 2 ∷ 6 ∷ [])
     ∷ (7 ∷ 2 ∷ 2 ∷ 5 ∷ 2 ∷ 6 ∷ [])
     -- a node missing; a node too many
@@ -82,6 +82,6 @@ pub refused-examples : all-none (allLoaded forms) ≡ true
 unfolding all-none allLoaded forms loaded loadedNumbers numbersIn countNumbers nodeNumbers numbersAt before number groups lastGroup below stateFrom withTop isCount topFrom wholeTop isWhole isNone isGood sameSums inOrder treeFrom size level withRest nodes upwards prepared
 refused-examples = refl
 
-pub place-examples : allPlaces forms ≡ 0 ∷ 1 ∷ 1 ∷ 5 ∷ 8 ∷ 2 ∷ 3 ∷ 8 ∷ 6 ∷ 6 ∷ 8 ∷ 5 ∷ 4 ∷ 8 ∷ 8 ∷ 8 ∷ 12 ∷ 10 ∷ 7 ∷ 7 ∷ []
+pub place-examples : allPlaces forms ≡ 0 ∷ 1 ∷ 1 ∷ 5 ∷ 8 ∷ 2 ∷ 4 ∷ 8 ∷ 6 ∷ 6 ∷ 8 ∷ 5 ∷ 4 ∷ 8 ∷ 8 ∷ 8 ∷ 12 ∷ 10 ∷ 7 ∷ 7 ∷ []
 unfolding allPlaces forms badPlace placeIn numbersIn countNumbers nodeNumbers numbersAt before number groups lastGroup below
 place-examples = refl
