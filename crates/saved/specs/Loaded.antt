@@ -120,10 +120,6 @@ loadedUpTo most bytes = loadedNumbers most (length bytes) (numbersIn bytes)
 abbrev pub loaded : List ℕ → Option State
 loaded = loadedUpTo mostSlots
 
--- 02 (viii) (RULES 16.9): "An installation not yet updated refuses a saved C above 1,023": its reader is the same, with its own limit.
-abbrev pub mostBefore : ℕ
-mostBefore = 1023
-
 -- 02 (ii) (RULES 16.8): "its 13 gives the place of the first bad number, and the count of saved bytes where every number reads but no writer
 -- produces the whole".
 unfoldable pub placeIn : ℕ → Numbers → ℕ
