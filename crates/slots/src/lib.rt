@@ -140,7 +140,7 @@ pub fn last_slot(pool: &[u32]) -> u32
     }
 }
 
-// 01: "C from 1 to 1,023, so its length is 4 + 4C."
+// 01: "its length is 4 + 4C"; 02 (viii): "Raise C to 16,383. [..] Code 1 follows the new limit."
 pub fn length_good(pool: &[u32]) -> bool
     ensures { λ r. ⌜ r ≡ lengthGood (now (pool .entry)) ⌝ }
 {
