@@ -86,22 +86,26 @@ struct Race<'a> {
 /// Times a unit of the race's work. All sets hold the same keys before and after: `home` inserts what may be gone.
 fn race(sets: &mut [Box<dyn Set>], home: &Work, race: Race) {
     let Race { what, before, work, units, net } = race;
-    let empty = Work::empty_call();
+    let empty = Work::empty_calls(work.calls());
     let again = |set: &mut dyn Set| {
         set.restore();
         set.run(before);
     };
-    // Paired: an audit's time depends on what the processor has learned of the pool, so each is taken off where it is
-    // spent, a moment after one like it was timed.
-    let sample = |set: &mut dyn Set| {
+    let sample = |set: &mut dyn Set, work: &Work| {
         again(set);
-        let calls = if net && set.pooled().is_some() { work.calls() as f64 * clocked(set, |set| set.run(&empty)) } else { 0.0 };
-        clocked(set, |set| set.run(work)) - calls
+        clocked(set, |set| set.run(work))
     };
     sets.iter_mut().for_each(|set| set.keep());
-    let mut samples = vec![vec![]; sets.len()];
+    let mut samples = vec![(vec![], vec![]); sets.len()];
     for _ in 0..SPELLS {
-        sets.iter_mut().zip(&mut samples).for_each(|(set, samples)| spell(samples, || sample(set.as_mut())));
+        for (set, (works, audits)) in sets.iter_mut().zip(&mut samples) {
+            // An audit's time depends on what the processor has learned of the pool, so as many of them are timed in turn with the work, after
+            // the same things. Each has its own lower quartile: that of the differences would be where the audits met something else.
+            spell(works, || {
+                audits.push(if net && set.pooled().is_some() { sample(set.as_mut(), &empty) } else { 0.0 });
+                sample(set.as_mut(), work)
+            });
+        }
     }
     let mut good = vec![];
     for set in sets.iter_mut() {
@@ -111,7 +115,10 @@ fn race(sets: &mut [Box<dyn Set>], home: &Work, race: Race) {
         set.run(home);
     }
     assert!(good.iter().all(|&g| g == good[0]), "{what}: the contestants do not agree: {good:?}");
-    let times: Vec<_> = sets.iter().zip(&mut samples).map(|(set, samples)| (set.name(), typical(samples) / units as f64)).collect();
+    let mut times = vec![];
+    for (set, (works, audits)) in sets.iter().zip(&mut samples) {
+        times.push((set.name(), (typical(works) - typical(audits)) / units as f64));
+    }
     line(what, &times);
 }
 
@@ -214,8 +221,10 @@ fn table(count: usize, slots: usize) {
         set.run(&settle(whole));
     });
 
-    let half = &rng.shuffled(&keys)[..count / 2];
-    let (gone, back) = (Work::new(each(half, delete), 256), Work::new(each(half, insert), 256));
+    // One batch of them: the audits of more would meet other trees than those that are taken off.
+    let moved = &rng.shuffled(&keys)[..(count / 2).min(256)];
+    let share = if 2 * moved.len() == count { "half".to_string() } else { moved.len().to_string() };
+    let (gone, back) = (Work::new(each(moved, delete), 256), Work::new(each(moved, insert), 256));
     let some: Vec<u32> = (0..MIX).map(|_| keys[rng.below(count)]).collect();
     let searches = Work::new(each(&some, search), 256);
     race(
@@ -223,8 +232,10 @@ fn table(count: usize, slots: usize) {
         &back,
         Race { what: "search, in a batch of 256 (net)", before: &nothing, work: &searches, units: searches.len(), net: true },
     );
-    race(&mut sets, &back, Race { what: "insert, half of the keys (net)", before: &gone, work: &back, units: back.len(), net: true });
-    race(&mut sets, &back, Race { what: "delete, half of the keys (net)", before: &back, work: &gone, units: gone.len(), net: true });
+    let what = format!("insert, {share} of the keys (net)");
+    race(&mut sets, &back, Race { what: &what, before: &gone, work: &back, units: back.len(), net: true });
+    let what = format!("delete, {share} of the keys (net)");
+    race(&mut sets, &back, Race { what: &what, before: &back, work: &gone, units: gone.len(), net: true });
     if count > SPANNED {
         span_rows(&mut sets[..3], &mut rng, &spread);
     }
