@@ -12,8 +12,8 @@ use std::time::{Duration, Instant};
 const TABLES: [(usize, usize); 3] = [(64, 1023), (512, 1023), (8192, 16_383)];
 /// Commands of a mix: so many that the processor does not learn the ways down by heart, as it would from 256 that repeat.
 const MIX: usize = 64 * 256;
-/// How long one contestant is timed at a stretch, and how many stretches it gets, the others in between. A stretch goes on for so many rounds,
-/// where they do not take longer than the longest; it has one round at least.
+/// How long one contestant is timed at a stretch and how often, both at least, but no longer than the longest; and how many stretches it gets,
+/// the others in between.
 const SPELL: Duration = Duration::from_millis(30);
 const ROUNDS: usize = 50;
 const LONGEST_SPELL: Duration = Duration::from_millis(200);
