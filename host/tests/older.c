@@ -490,7 +490,7 @@ static void larger_saved(void) {
             }
         }
         for (uint32_t turn = 0; turn < 4 * LEANS; turn++, by_hand++) {
-            put_form(&form, larger[i], from_to(1, (larger[i] + 1) / 2), turn < LEANS ? MOST_LEVEL : from_to(1, MOST_LEVEL), (enum lean)(turn % LEANS));
+            put_form(&form, larger[i], from_to(2, (larger[i] + 1) / 2), turn < LEANS ? MOST_LEVEL : from_to(1, MOST_LEVEL), (enum lean)(turn % LEANS));
             one_larger(larger[i]);
         }
     }
@@ -577,9 +577,12 @@ static void older_saved(void) {
     seen.forms = 0;
     for (uint32_t level = 1; level <= MOST_LEVEL; level++) {
         for (uint32_t lean = 0; lean < LEANS; lean++) {
-            const uint32_t slots = below(2) ? from_to(3, older.most_slots) : sizes[below(SIZES)], most = (slots + 1) / 2;
-            put_form(&form, slots, below(4) ? from_to(1, most) : most, level, (enum lean)lean);
+            const uint32_t slots = below(2) ? from_to(3, older.most_slots) : sizes[from_to(2, SIZES - 1)], most = (slots + 1) / 2;
+            put_form(&form, slots, below(4) ? from_to(2, most) : most, level, (enum lean)lean);
             one_older(slots);
+            noise(&pool, slots);
+            ask(&today, PLAIN_LOAD, &pool, &form, NULL);
+            check(pool.word[3] == level, "L of a form made by hand", slots, pool.word[3], level);
         }
     }
     group("%u forms made by hand, every L from 1 to %d, which the older reads and writes again: the same of them", seen.forms, MOST_LEVEL);
