@@ -10,7 +10,7 @@ use core::fmt;
 #[must_use = "a refused call did nothing"]
 #[non_exhaustive]
 pub enum Refused {
-    /// Code 1: the pool's length is not 4 + 4C with C from 1 to 1,023. (C slots hold (C+1)/2 keys, 127 hold 64.)
+    /// Code 1: the pool's length is not 4 + 4C with C from 1 to 16,383. (C slots hold (C+1)/2 keys, 127 hold 64.)
     WrongLength,
     /// Code 2: the pool breaks an audit rule. What it says about marks means nothing: send no text by it. A pool that an archive
     /// of interface 5 or before left with two keys or more breaks one too: [`Pool::resume`](crate::Pool::resume) says how it

@@ -138,7 +138,7 @@ static void over_a_restart(const uint32_t *pool, size_t words) {
     uint32_t other[CHROMATIC_POOL_WORDS(7)], smaller[CHROMATIC_POOL_WORDS(3)] = {0};
     const size_t count = sizeof expected;
 
-    check(CHROMATIC_SAVED_BYTES(0) == 4 && CHROMATIC_SAVED_BYTES(CHROMATIC_MOST_SLOTS) == 7165, "the most bytes of a saved set");
+    check(CHROMATIC_SAVED_BYTES(0) == 4 && CHROMATIC_SAVED_BYTES(CHROMATIC_MOST_SLOTS) == 114685, "the most bytes of a saved set");
     memset(out, 9, sizeof out);
     memset(again, 9, sizeof again);
     memset(other, 9, sizeof other);
@@ -338,7 +338,7 @@ int main(void) {
     check(CHROMATIC_CODE(refused) == CHROMATIC_BAD_COMMAND && CHROMATIC_NUMBER(refused) == 13, "bad command");
     refused = chromatic_batch(pool, words, batch, sizeof batch, answers, room - 1);
     check(refused == refused_with(CHROMATIC_FEW_ANSWERS), "few answers");
-    check(chromatic_interface_7() == CHROMATIC_INTERFACE, "the interface's number");
+    check(chromatic_interface_8() == CHROMATIC_INTERFACE, "the interface's number");
     check(chromatic_batch(pool, words, two_hundred, sizeof two_hundred, answers, room) == 0 && answers[0] == CHROMATIC_KEY_ABSENT, "200 in two bytes");
 
     check(chromatic_batch(pool, words, NOTHING, 0, NOTHING, 0) == 0, "an empty batch at NULL");

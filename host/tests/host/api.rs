@@ -1,6 +1,6 @@
 //! The safe crate: every answer as a type, the batch's limits, and what a refusal leaves.
 
-use crate::pools::{grown, Shape, Weights};
+use crate::pools::{grown, Shape, Weights, LARGE, LARGE_KEYS};
 use crate::rng::Rng;
 use crate::twin;
 use chromatic::{
@@ -426,7 +426,7 @@ fn a_pushed_insert_inserts_nothing() -> Result<(), Refused> {
 /// "C slots hold (C+1)/2 keys", and the next insert says so, whatever was deleted and inserted before.
 #[test]
 fn slots_hold_so_many_keys() -> Result<(), Refused> {
-    for slots in (1..=20).chain([127, 1022, 1023]) {
+    for slots in (1..=20).chain([127, LARGE - 1, LARGE]) {
         let mut pool = Pool::prepare(vec![0; Pool::words_for(slots)])?;
         let most = (slots as u32 + 1) / 2;
         assert_eq!((pool.slots(), pool.most_keys()), (slots, most as usize));
@@ -445,18 +445,18 @@ fn slots_hold_so_many_keys() -> Result<(), Refused> {
         }
     }
     let [most, keys] = [Pool::MOST_SLOTS, Pool::words_for(127)];
-    assert_eq!((most, keys), (1023, 512));
+    assert_eq!((most, keys), (16_383, 512));
     Ok(())
 }
 
 #[test]
 fn words_for_refuses_other_counts() {
-    for slots in [0, 1024, usize::MAX / 4, usize::MAX] {
+    for slots in [0, 16_384, usize::MAX / 4, usize::MAX] {
         assert!(std::panic::catch_unwind(|| Pool::words_for(slots)).is_err(), "{slots} slots");
         assert!(std::panic::catch_unwind(|| Pool::saved_bytes_for(slots)).is_err(), "{slots} slots");
     }
-    assert_eq!([1, 1023].map(Pool::words_for), [8, 4096]);
-    assert_eq!([1, 1023].map(Pool::saved_bytes_for), [11, 7165]);
+    assert_eq!([1, 1023, 1024, 16_383].map(Pool::words_for), [8, 4096, 4100, 65_536]);
+    assert_eq!([1, 1023, 1024, 16_383].map(Pool::saved_bytes_for), [11, 7165, 7172, 114_685]);
 }
 
 /// A pool of 9 slots with 01's P1 in it, and its saved form worked by hand: C, N, then each node from the root.
@@ -637,13 +637,13 @@ fn a_pool_of_before_with_one_key_is_taken_up() -> Result<(), Refused> {
 /// The largest saved set: every number as long as it can be.
 #[test]
 fn the_longest_saved_set() -> Result<(), Refused> {
-    let keys: Vec<u32> = (u32::MAX - 511..=u32::MAX).collect();
-    let words = grown(&mut Rng::seeded("a large saved set", 9200), 1023, &keys, 255, Shape::Halves, Weights::Red).words();
+    let keys: Vec<u32> = (u32::MAX - 8191..=u32::MAX).collect();
+    let words = grown(&mut Rng::seeded("a large saved set", 9200), Pool::MOST_SLOTS, &keys, 255, Shape::Halves, Weights::Red).words();
     let pool = Pool::resume(words)?;
     let mut out = [0; Pool::saved_bytes_for(Pool::MOST_SLOTS)];
     assert_eq!(pool.most_saved_bytes()?, out.len());
     let saved = pool.save(&mut out)?;
-    assert_eq!(saved.len(), 4 + 512 * 7 + 511 * 6, "leaves of weight 255 take seven bytes, inner nodes of weight 0 or 1 six");
+    assert_eq!(saved.len(), 4 + 8192 * 7 + 8191 * 6, "leaves of weight 255 take seven bytes, inner nodes of weight 0 or 1 six");
     let again = Pool::load(vec![0; Pool::words_for(Pool::MOST_SLOTS)], saved)?;
     assert_eq!(again.report(), pool.report());
     Ok(())
@@ -655,7 +655,7 @@ fn the_longest_saved_set() -> Result<(), Refused> {
 fn a_set_is_saved_to_a_vec() -> Result<(), Refused> {
     let (pool, bytes) = p1();
     assert_eq!(pool.save_to_vec()?, bytes);
-    assert_eq!(Pool::prepare(vec![0; Pool::words_for(1023)])?.save_to_vec()?, [0xFF, 0x07, 0]);
+    assert_eq!(Pool::prepare(vec![0; Pool::words_for(Pool::MOST_SLOTS)])?.save_to_vec()?, [0xFF, 0x7F, 0]);
     Ok(())
 }
 
@@ -756,7 +756,7 @@ fn the_lowest_gap_is_the_attempt() -> Result<(), Refused> {
 /// The accident of 5:04: the set is full, and the sender asks again and again. Nothing goes, and no word changes.
 #[test]
 fn a_full_set_sends_nothing() -> Result<(), Refused> {
-    for slots in (1..=20).chain([1023]) {
+    for slots in (1..=20).chain([LARGE]) {
         let mut pool = Pool::prepare(vec![0; Pool::words_for(slots)])?;
         let most = pool.most_keys() as u32;
         for resident in 0..most {
@@ -985,8 +985,8 @@ fn one_figure_is_one_call() -> Result<(), Refused> {
 /// A bound that fits no command: the budget is the largest that does.
 #[test]
 fn a_bound_above_32_bits() -> Result<(), Refused> {
-    let keys: Vec<u32> = (0..512).collect();
-    let mut words = grown(&mut Rng::seeded("a heavy tree", 9100), 1023, &keys, 255, Shape::Halves, Weights::Red).words();
+    let keys: Vec<u32> = (0..LARGE_KEYS as u32).collect();
+    let mut words = grown(&mut Rng::seeded("a heavy tree", 9100), LARGE, &keys, 255, Shape::Halves, Weights::Red).words();
     let report = Pool::resume(&mut words[..])?.report()?;
     assert!(report.bound > u32::MAX.into(), "{report:?}");
     assert_eq!(report.settle_budget(), u32::MAX);

@@ -2,9 +2,9 @@
 //! stay linear and the stack small, and kind 1 at the root walks to no leaf.
 
 use crate::pair::{library_batch, library_call, library_load, library_save, same_call, same_on};
-use crate::pools::{deepest, deepest_from, grown, two_chains, Shape, Weights};
+use crate::pools::{deepest, deepest_from, grown, two_chains, Shape, Weights, LARGE};
 use crate::rng::Rng;
-use crate::twin::{self, write_number, Call, Command, Parts, LIMITS, MOST_SLOTS};
+use crate::twin::{self, write_number, Call, Command, Parts, LIMITS};
 use chromatic::raw;
 use std::hint::black_box;
 use std::sync::mpsc::channel;
@@ -99,10 +99,10 @@ fn call_all(words: &[u32]) -> u32 {
 const SEND: Call = Call::MaySend { notice: 1, resident: 0, limit: 7 };
 
 /// No form has more bytes: two numbers of two bytes, and seven for each node.
-const LONGEST_FORM: usize = 4 + 7 * MOST_SLOTS;
+const LONGEST_FORM: usize = 4 + 7 * LARGE;
 
 fn every_operation() -> Vec<u8> {
-    let far = MOST_SLOTS as u32 / 2;
+    let far = LARGE as u32 / 2;
     Command::all(&[
         Command::AtOrAbove(far),
         Command::Count(0, u32::MAX),
@@ -117,7 +117,7 @@ fn every_operation() -> Vec<u8> {
 
 #[test]
 fn hurtful_pools_end_and_are_refused() {
-    for slots in [1, 2, 3, 4, 9, 30, MOST_SLOTS] {
+    for slots in [1, 2, 3, 4, 9, 30, LARGE] {
         for (name, words) in tangles(slots) {
             let tangled = words.clone();
             let code = on_stack(SMALL_STACK, move || call_all(&tangled));
@@ -130,7 +130,7 @@ fn hurtful_pools_end_and_are_refused() {
 #[test]
 fn the_deepest_sound_pools_fit_a_small_stack() {
     for shape in [Shape::ChainLeft, Shape::ChainRight, Shape::Zigzag] {
-        let words = deepest(MOST_SLOTS, shape).words();
+        let words = deepest(LARGE, shape).words();
         assert_eq!(on_stack(SMALL_STACK, move || call_all(&words)), 0, "{shape:?}");
     }
 }
@@ -145,7 +145,7 @@ fn deepest_of_a_notice(slots: usize, shape: Shape) -> Vec<u32> {
 fn clearing_the_deepest_trees_fits_a_small_stack() {
     let clear = Call::Clear { notice: 1 };
     for shape in [Shape::ChainLeft, Shape::ChainRight, Shape::Zigzag] {
-        let words = deepest_of_a_notice(MOST_SLOTS, shape);
+        let words = deepest_of_a_notice(LARGE, shape);
         let (want, left) = same_call(&words, clear);
         // 512 keys from attempt 0 on, of which 64 are no marks.
         assert_eq!((want, left[2]), ((0, 448), 127), "{shape:?}");
@@ -175,7 +175,7 @@ fn hurtful_bytes(len: usize) -> Vec<(&'static str, Vec<u8>)> {
     let full = [0xFF, 0x07, 0xFF, 0x07]; // C and N are 1,023
     let most_nodes = [0xFF, 0x07, 0xFF, 0xFF, 0xFF, 0xFF, 0x0F];
     let chain_right = || [3, 0].into_iter().chain((0..).flat_map(|i| [2, i, 1, i + 1]));
-    let sound = deepest(MOST_SLOTS, Shape::ChainLeft).saved();
+    let sound = deepest(LARGE, Shape::ChainLeft).saved();
     let mut rng = Rng::seeded("noise made to hurt", 1);
     let noise: Vec<u32> = (0..len).map(|_| rng.next() as u32).collect();
     vec![
@@ -196,7 +196,7 @@ fn hurtful_bytes(len: usize) -> Vec<(&'static str, Vec<u8>)> {
 fn hurtful_bytes_end_and_are_refused() {
     for len in [3, 100, 10_000, 1 << 20] {
         for (name, saved) in hurtful_bytes(len) {
-            let before = vec![7; 4 + 4 * MOST_SLOTS];
+            let before = vec![7; 4 + 4 * LARGE];
             let want = twin::load(&mut before.clone(), &saved);
             assert!(want.0 == 13 && want.1 as usize <= saved.len(), "{name}, {len} bytes, by the twin: {want:?}");
             let mut words = before.clone();
@@ -247,7 +247,7 @@ fn assert_linear(what: &str, unit: &str, sizes: [usize; 4], call: impl FnMut(usi
     assert!(linear(&times), "{what}: {times:?} in {rounds} rounds");
 }
 
-const SIZES: [usize; 4] = [127, 255, 511, MOST_SLOTS];
+const SIZES: [usize; 4] = [127, 255, 511, LARGE];
 
 /// By size, what hurts the audit, and the deepest sound tree.
 fn pools_by_size() -> [Vec<(&'static str, Vec<u32>)>; 4] {
@@ -320,8 +320,8 @@ fn spans_stay_linear() {
 fn the_send_limit_costs_about_an_audit() {
     // Every odd notice has one resident's seven marks.
     let marks = (0..).flat_map(|i| LIMITS.map(move |attempt| Parts { notice: 2 * i + 1, resident: i, attempt }.key()));
-    let keys: Vec<u32> = marks.take(MOST_SLOTS.div_ceil(2)).collect();
-    let mut pool = grown(&mut Rng::seeded("a pool full of marks", 1), MOST_SLOTS, &keys, 1, Shape::Halves, Weights::Red).words();
+    let keys: Vec<u32> = marks.take(LARGE.div_ceil(2)).collect();
+    let mut pool = grown(&mut Rng::seeded("a pool full of marks", 1), LARGE, &keys, 1, Shape::Halves, Weights::Red).words();
     assert_eq!(library_batch(&mut pool, &Command::all(&[Command::Settle(u32::MAX)]), &mut [0; 2]), (0, 0));
     assert_eq!(raw::report(&pool, 7), 0, "nothing is left to settle");
     let (none, all_used) = (Call::Clear { notice: 74 }, Call::MaySend { notice: 73, resident: 36, limit: 7 });
@@ -343,7 +343,7 @@ fn the_send_limit_costs_about_an_audit() {
 /// 02 (v): "Stop walking for L." Kind 1 at the root, refused with 11, asks for L, and kind 2 there, refused with 10, does not.
 #[test]
 fn kind_1_at_the_root_costs_about_any_refused_step() {
-    let mut pool = two_chains(MOST_SLOTS, 255).words();
+    let mut pool = two_chains(LARGE, 255).words();
     let steps = |kind| Command::all(&[Command::Step(1, kind); 256]);
     let (asking, other) = (steps(1), steps(2));
     let mut answers = [0; 512];
@@ -413,8 +413,8 @@ const LEVEL: f64 = (STACK_LATER / LEVELS_LATER) as f64;
 
 #[test]
 fn bytes_of_stack_for_each_level() {
-    let smaller = MOST_SLOTS / 2;
-    let levels = (MOST_SLOTS.div_ceil(2) - smaller.div_ceil(2)) as f64;
+    let smaller = LARGE / 2;
+    let levels = (LARGE.div_ceil(2) - smaller.div_ceil(2)) as f64;
     /// Makes the call for so many slots, all that it needs made before.
     type Make = fn(usize) -> Box<dyn Fn() + Send>;
     let calls: [(&str, f64, Make); 10] = [
@@ -465,9 +465,9 @@ fn bytes_of_stack_for_each_level() {
         }),
     ];
     for (name, most, make) in calls {
-        let used = [smaller, MOST_SLOTS].map(|slots| stack_used(make(slots)));
+        let used = [smaller, LARGE].map(|slots| stack_used(make(slots)));
         let per_level = (used[1].saturating_sub(used[0])) as f64 / levels;
-        let later = used[1] + (per_level * (LEVELS_LATER - MOST_SLOTS.div_ceil(2)) as f64) as usize;
+        let later = used[1] + (per_level * (LEVELS_LATER - LARGE.div_ceil(2)) as f64) as usize;
         println!(
             "measured stack of {name}: {per_level:.0} bytes a level, {} KiB at C = 1,023; at 16,383 it would be {} of {} KiB",
             used[1] / 1024,

@@ -2,7 +2,7 @@
 //! here without the twin.
 
 use crate::pair::{by_code, library_batch, same_call, Pair};
-use crate::pools::{grown, some_keys, SHAPES, WEIGHTS};
+use crate::pools::{grown, some_keys, LARGE, SHAPES, WEIGHTS};
 use crate::random::{every_reached, seeds, share, step};
 use crate::rng::Rng;
 use crate::twin::{Answer, Call, Command, Parts, Set, LIMITS, MOST_SLOTS, NOTICES, RESIDENTS};
@@ -347,13 +347,13 @@ fn arguments_at_the_ends_of_their_ranges() {
     });
 }
 
-/// "pool length is not 4 + 4C", C from 1 to 1,023.
+/// "pool length is not 4 + 4C", C from 1 to 16,383.
 #[test]
 fn lengths() {
-    let lengths = (0..=20).chain([4_091, 4_092, 4_095, 4_096, 4_097, 4_099, 4_100, 4_104, 8_192, 65_540]);
+    let lengths = (0..=20).chain([4_095, 4_096, 4_099, 4_100]).chain(65_531..=65_545).chain([131_076]);
     compared("lengths", |seen| {
         for len in lengths {
-            let good = len % 4 == 0 && (8..=4_096).contains(&len);
+            let good = len % 4 == 0 && (8..=65_536).contains(&len);
             for word in [0, 1, u32::MAX] {
                 for call in [send(1, 0, 1), send(65_535, 8_191, 7), clear(1), clear(65_535)] {
                     let code = if good { 2 } else { 1 };
@@ -500,11 +500,11 @@ fn random_days() {
     assert!(share() > 1 || seen.attempts[1..].iter().all(|&yes| yes > 500), "each attempt is seen");
 }
 
-/// Pools of up to 1,023 slots, full of other marks before the day begins, or nearly so.
+/// Large pools, full of other marks before the day begins, or nearly so.
 #[test]
-fn days_in_the_largest_pools() {
+fn days_in_large_pools() {
     seeded("days in large pools", 36_000, 6, |rng, seen| {
-        for slots in [255, 1022, MOST_SLOTS] {
+        for slots in [255, LARGE - 1, LARGE] {
             let town = Town { notices: vec![1, 2, 65_535], residents: (0..60).chain([8_191]).collect(), limits: LIMITS.collect() };
             let count = slots.div_ceil(2) - rng.below(20);
             let mut keys: Vec<u32> = (0..2 * count).map(|_| town.any_key(rng)).collect();
@@ -629,7 +629,7 @@ fn never_more_than_the_limit() {
 fn a_full_pool_is_asked_211_times() {
     let mut rng = Rng::seeded("5:04", 33_000);
     let seen = compared("5:04", |seen| {
-        for slots in [1, 2, 3, 8, 63, 127, MOST_SLOTS] {
+        for slots in [1, 2, 3, 8, 63, 127, LARGE] {
             for limit in LIMITS {
                 let mut pair = Pair::prepared(slots);
                 // Residents as long as there is room. The last may have fewer marks than the limit.
@@ -693,11 +693,11 @@ fn clearing_takes_the_notice_and_nothing_beside_it() {
     });
 }
 
-/// Up to 1,023 slots, full of one notice's marks: the pool is empty after, and takes marks again.
+/// Small pools and large ones, full of one notice's marks: the pool is empty after, and takes marks again.
 #[test]
 fn clearing_a_notice_that_fills_the_pool() {
     seeded("pools of one notice", 35_000, 4, |rng, seen| {
-        for slots in [1, 2, 3, 7, 8, 63, 127, MOST_SLOTS] {
+        for slots in [1, 2, 3, 7, 8, 63, 127, LARGE] {
             for shape in SHAPES {
                 let notice = rng.pick(&[1, 4411, 65_535]);
                 let count = slots.div_ceil(2);

@@ -3,7 +3,7 @@
 
 use crate::damage;
 use crate::pair::{same_batch, same_call, same_load, same_on, same_save, Pair, Seen};
-use crate::pools::{deepest, grown, some_keys, two_chains, Shape, SHAPES, WEIGHTS};
+use crate::pools::{deepest, grown, some_keys, two_chains, Shape, LARGE, SHAPES, WEIGHTS};
 use crate::random::{command, compared, share, MIXES, SMALL};
 use crate::rng::Rng;
 use crate::twin::{edge, inner, leaf, Answer, Call, Command, Set, MOST_SLOTS};
@@ -141,13 +141,13 @@ fn kind_1_at_the_root() {
     keeps(p8(255), [1, 0, 9, 255], Settle(1), (12, 1));
 }
 
-/// The same in the largest pool, far from every leaf but two.
+/// The same in a large pool, far from every leaf but two.
 #[test]
-fn kind_1_at_the_root_of_the_largest_pool() {
+fn kind_1_at_the_root_of_a_large_pool() {
     for (level, answer, after) in [(1, (0, 1), 2), (254, (0, 1), 255), (255, (11, 0), 255)] {
-        let mut pair = Pair::holding(two_chains(MOST_SLOTS, level));
-        assert_eq!((pair.header(), pair.report()[1]), ([1, 0, 1023, level], level.into()));
-        lines(&mut pair, &[(Step(1, 1), answer, [1, 0, 1023, after])]);
+        let mut pair = Pair::holding(two_chains(LARGE, level));
+        assert_eq!((pair.header(), pair.report()[1]), ([1, 0, LARGE as u32, level], level.into()));
+        lines(&mut pair, &[(Step(1, 1), answer, [1, 0, LARGE as u32, after])]);
         assert_eq!(pair.report()[1], after.into());
     }
 }
@@ -428,7 +428,7 @@ fn a_fourth_word_that_is_not_l() {
         sets.extend(SHAPES.map(|shape| WEIGHTS.map(|weights| grown(&mut rng, 17, &keys, level, shape, weights))).concat());
     }
     sets.extend([1, 2, 9, MOST_SLOTS].map(Set::prepared));
-    sets.extend(SHAPES.map(|shape| deepest(MOST_SLOTS, shape)));
+    sets.extend(SHAPES.map(|shape| deepest(LARGE, shape)));
     let mut refused = 0;
     for set in &sets {
         let sound = set.words();
@@ -465,7 +465,7 @@ fn a_pool_of_before() {
         before[3] = 0;
         refused_with_2(&before);
     }
-    let mut deepest = deepest(MOST_SLOTS, Shape::Zigzag).words();
+    let mut deepest = deepest(LARGE, Shape::Zigzag).words();
     deepest[3] = 0;
     refused_with_2(&deepest);
 }

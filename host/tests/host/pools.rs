@@ -29,6 +29,11 @@ pub enum Weights {
     Heavy,
 }
 
+/// Slots of a large pool where the limit is not the matter: as many as were the most before request (viii).
+pub const LARGE: usize = 1023;
+/// The keys that they hold.
+pub const LARGE_KEYS: usize = LARGE.div_ceil(2);
+
 pub const SHAPES: [Shape; 5] = [Shape::ChainRight, Shape::ChainLeft, Shape::Zigzag, Shape::Halves, Shape::Any];
 pub const WEIGHTS: [Weights; 4] = [Weights::Red, Weights::Reddish, Weights::Light, Weights::Heavy];
 

@@ -1,9 +1,9 @@
 //! Random commands, one at a time and in batches, by the library and the twin; the audit after every command.
 
 use crate::pair::{library_batch, overweight, same_batch, Pair, Seen};
-use crate::pools::{grown, some_keys, Weights, SHAPES, WEIGHTS};
+use crate::pools::{grown, some_keys, Weights, LARGE, LARGE_KEYS, SHAPES, WEIGHTS};
 use crate::rng::Rng;
-use crate::twin::{write_number, Command, Set, MOST_SLOTS};
+use crate::twin::{write_number, Command, Set};
 use std::collections::{BTreeSet, HashSet};
 use std::ops::RangeInclusive;
 use std::time::Instant;
@@ -329,10 +329,10 @@ fn excess_weight_is_read_off_the_words() {
 }
 
 #[test]
-fn largest_pools() {
+fn large_pools() {
     compared("pools of 1,023 slots", 3000, 4, |rng, seen| {
-        let mut pair = Pair::prepared(MOST_SLOTS);
-        let mut keys = some_keys(rng, 520, 5000);
+        let mut pair = Pair::prepared(LARGE);
+        let mut keys = some_keys(rng, LARGE_KEYS + 8, 5000);
         rng.shuffle(&mut keys);
         for &key in &keys {
             pair.run_seen(Command::Insert(key), seen);
@@ -348,14 +348,14 @@ fn largest_pools() {
 
 /// Heavy and red pools of 1,023 slots, settled piece by piece and to the end.
 #[test]
-fn largest_grown_pools() {
+fn large_grown_pools() {
     let mut shapes = SHAPES.into_iter().cycle();
     compared("grown pools of 1,023 slots", 4000, SHAPES.len() as u64, |rng, seen| {
         let shape = shapes.next().unwrap();
         for weights in WEIGHTS {
-            let keys = some_keys(rng, 512, 100_000);
+            let keys = some_keys(rng, LARGE_KEYS, 100_000);
             let level = if weights == Weights::Red { 1 } else { 255 };
-            let mut pair = Pair::holding(grown(rng, MOST_SLOTS, &keys, level, shape, weights));
+            let mut pair = Pair::holding(grown(rng, LARGE, &keys, level, shape, weights));
             pair.look();
             run_singly(rng, &mut pair, 60, 100_000, seen);
             pair.run_seen(Command::Settle(200), seen);

@@ -3,7 +3,7 @@
 
 use crate::ledger::held;
 use crate::pair::{library_batch, same_batch, Pair, Seen};
-use crate::pools::{deepest, deepest_from, grown, some_keys, Shape, SHAPES, WEIGHTS};
+use crate::pools::{deepest, deepest_from, grown, some_keys, Shape, LARGE, LARGE_KEYS, SHAPES, WEIGHTS};
 use crate::random::{command, compared, near, share, span, Mix, MIXES, SMALL};
 use crate::rng::Rng;
 use crate::twin::{Answer, Call, Command, Set, MOST_SLOTS};
@@ -296,16 +296,16 @@ fn pools_that_were_lived_in() {
 
 /// Spans of none, one, some and all keys, at either end and in the middle of pools of 1,023 slots.
 #[test]
-fn spans_in_the_largest_pools() {
+fn spans_in_large_pools() {
     compared("spans in pools of 1,023 slots", 62_000, 2, |rng, seen| {
-        let keys = some_keys(rng, 512, LAST);
+        let keys = some_keys(rng, LARGE_KEYS, LAST);
         let anywhere = |rng: &mut Rng| {
             SHAPES.map(|shape| {
                 let (level, weights) = (rng.pick(&[1, 9, 255]), rng.pick(&WEIGHTS));
-                grown(rng, MOST_SLOTS, &keys, level, shape, weights)
+                grown(rng, LARGE, &keys, level, shape, weights)
             })
         };
-        let deep = [deepest(MOST_SLOTS, Shape::ChainLeft), deepest_from(LAST - 511, MOST_SLOTS, Shape::ChainRight)];
+        let deep = [deepest(LARGE, Shape::ChainLeft), deepest_from(LAST - 511, LARGE, Shape::ChainRight)];
         for set in anywhere(rng).into_iter().chain(deep) {
             let pair = Pair::holding(set);
             let keys = held(&pair.words);

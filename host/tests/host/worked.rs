@@ -278,9 +278,9 @@ fn a_budget_that_is_just_enough() {
 
 #[test]
 fn lengths() {
-    for len in (0..=40).chain(4088..=4112).chain([8196, 65540]) {
+    for len in (0..=40).chain(4088..=4112).chain([8196]).chain(65_528..=65_545).chain([65_600, 131_076]) {
         let mut words = vec![7; len];
-        let good = len % 4 == 0 && (8..=4096).contains(&len);
+        let good = len % 4 == 0 && (8..=65_536).contains(&len);
         assert_eq!(raw::audit(&words), if good { 2 } else { 1 }, "audit of {len} words");
         assert_eq!(raw::report(&words, 1), 0);
         let refusal = library_batch(&mut words, &[9], &mut [0; 2]);
@@ -358,6 +358,8 @@ fn saved_forms() {
     assert_eq!(saved(&Pair::prepared(1), 2), [0x01, 0x00]);
     assert_eq!(saved(&Pair::prepared(NINE), 2), [0x09, 0x00]);
     assert_eq!(saved(&Pair::prepared(1023), 3), [0xFF, 0x07, 0x00]);
+    assert_eq!(saved(&Pair::prepared(1024), 3), [0x80, 0x08, 0x00]);
+    assert_eq!(saved(&Pair::prepared(16_383), 3), [0xFF, 0x7F, 0x00]);
     let mut one = Pair::prepared(1);
     one.insert_all(&[u32::MAX]);
     assert_eq!(saved(&one, 8), [0x01, 0x01, 0x02, 0xFF, 0xFF, 0xFF, 0xFF, 0x0F]);
@@ -426,19 +428,26 @@ fn order_of_refusals_of_load() {
     let p1 = saved(&after_p1(NINE), 16);
     let nine_with_a_red_root = [0x09, 0x01, 0x00, 0x0A];
     let two_thousand_slots = [0xD0, 0x0F, 0x00];
+    let too_many_slots = [0x80, 0x80, 0x01, 0x00]; // 16,384
     for (words, bytes, want) in [
         (39, &nine_with_a_red_root[..], (1, 0)),
         (39, &p1, (1, 0)),
         (0, &[], (1, 0)),
         (4, &p1, (1, 0)),
-        (4100, &p1, (1, 0)),
+        (65_540, &p1, (1, 0)),
+        (65_540, &too_many_slots, (1, 0)),
         (40, &nine_with_a_red_root, (13, 4)),
         (44, &nine_with_a_red_root, (13, 4)),
-        (44, &two_thousand_slots, (13, 3)),
+        (44, &too_many_slots, (13, 4)),
+        (65_536, &too_many_slots, (13, 4)),
+        (44, &two_thousand_slots, (14, 0)),
+        (8004, &two_thousand_slots, (0, 0)),
         (40, &[], (13, 0)),
         (44, &p1, (14, 0)),
         (36, &p1, (14, 0)),
         (4096, &p1, (14, 0)),
+        (4100, &p1, (14, 0)),
+        (65_536, &p1, (14, 0)),
         (40, &p1, (0, 7)),
     ] {
         assert_eq!(same_load(&vec![7; words], bytes).0, want, "{bytes:02X?} into {words} words");

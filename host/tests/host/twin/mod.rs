@@ -14,8 +14,8 @@ pub use bytes::{commands, write_number, Command};
 pub use ledger::{call, Call, Parts, LIMITS, NOTICES, RESIDENTS};
 pub use saved::{load, save};
 
-/// "Slots are numbered from 1", "C from 1 to 1,023".
-pub const MOST_SLOTS: usize = 1023;
+/// 01: "Slots are numbered from 1", "C from 1 to 1,023"; 02 (viii): "Raise C to 16,383."
+pub const MOST_SLOTS: usize = 16_383;
 const FREE: u32 = 4_294_967_295;
 
 /// A code and a number.
