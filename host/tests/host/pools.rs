@@ -127,6 +127,15 @@ pub fn deepest(slots: usize, shape: Shape) -> Set {
 
 /// The same with other keys: so many from `first` on.
 pub fn deepest_from(first: u32, slots: usize, shape: Shape) -> Set {
+    chain(first, slots, 1, shape)
+}
+
+/// The same with leaves of weight `level`.
+pub fn deepest_and_heavy(slots: usize, level: u32, shape: Shape) -> Set {
+    chain(0, slots, level, shape)
+}
+
+fn chain(first: u32, slots: usize, level: u32, shape: Shape) -> Set {
     let keys: Vec<u32> = (first..).take(slots.div_ceil(2)).collect();
-    grown(&mut Rng::seeded("the deepest tree", 1), slots, &keys, 1, shape, Weights::Red)
+    grown(&mut Rng::seeded("the deepest tree", 1), slots, &keys, level, shape, Weights::Red)
 }
