@@ -1,7 +1,9 @@
 //! The cases that document 01 works by hand, those of DESIGN.md, and further ones for kinds that those leave out; the
-//! saved forms of some of them; 02's leaf of weight 9.
+//! saved forms of some of them; 02's leaf of weight 9, and its largest figures.
 
 use crate::pair::{library_batch, overweight, same_batch, same_load, same_on, same_save, Lent, Pair};
+use crate::pools::{deepest_and_heavy, Shape};
+use crate::threads::roomy;
 use crate::twin::{self, edge, inner, leaf, Command, Edge, Set};
 use chromatic::raw;
 use Command::{Delete, Insert, Search, Settle, Step};
@@ -478,6 +480,27 @@ pub fn two_leaves(weight: u32) -> Pair {
 
 /// The report of a tree with one leaf of weight 9 and 256 of weight 1: D is 8 times 512, the bound 1,540 times D.
 const ONE_LEAF_OF_WEIGHT_9: [u64; 7] = [513, 9, 8, 0, 4096, 0, 6_307_840];
+
+/// 02 (viii): "All figures of the report must be shown to fit 64 bits at the new size." The heaviest trees of the most slots: 8,192 leaves
+/// of weight 255, each with 16,382 nodes outside, and every inner edge red. In a chain the i-th inner node below the root has 2i nodes
+/// outside, and all but the last one a red child. In a complete tree the 2 to the power d inner nodes of depth d have 16,384 less
+/// 2 to the power 14 - d outside, and down to depth 11 two red children each.
+#[test]
+fn figures_above_32_bits() {
+    let d = 8192 * 254 * 16_382;
+    let whole = |r: u64, q: u64| [16_383, 255, 2_080_768, r, d, q, (3 * 16_383 + 1) * d + 2 * 16_383 * r + q];
+    let chain = whole(8189, (1..=8189).map(|i| 2 * i).sum());
+    let complete = whole(8188, (1..=11).map(|depth| (2 << depth) * (16_384 - (1 << (14 - depth)))).sum());
+    assert_eq!(chain, [16_383, 255, 2_080_768, 8189, 34_087_141_376, 67_067_910, 1_675_383_334_019_084]);
+    assert_eq!(complete, [16_383, 255, 2_080_768, 8188, 34_087_141_376, 133_791_744, 1_675_383_400_710_152]);
+    roomy(|| {
+        for (shape, want) in [(Shape::ChainLeft, chain), (Shape::ChainRight, chain), (Shape::Zigzag, chain), (Shape::Halves, complete)] {
+            let pair = Pair::holding(deepest_and_heavy(16_383, 255, shape));
+            assert_eq!(pair.report(), want, "{shape:?}");
+            pair.look();
+        }
+    });
+}
 
 /// Its third number after each step of settle, of which there are eight.
 const EIGHT_WORKED_OFF: [u64; 8] = [7, 6, 5, 4, 3, 2, 1, 0];
