@@ -1,10 +1,10 @@
 //! The cases that document 01 works by hand, those of DESIGN.md, and further ones for kinds that those leave out; the
 //! saved forms of some of them; 02's leaf of weight 9, and its largest figures.
 
-use crate::pair::{library_batch, overweight, same_batch, same_load, same_on, same_save, Lent, Pair};
+use crate::pair::{library_batch, overweight, same_batch, same_call, same_load, same_on, same_save, Lent, Pair};
 use crate::pools::{deepest_and_heavy, Shape};
 use crate::threads::roomy;
-use crate::twin::{self, edge, inner, leaf, Command, Edge, Set};
+use crate::twin::{self, edge, inner, leaf, Call, Command, Edge, Set};
 use chromatic::raw;
 use Command::{Delete, Insert, Search, Settle, Step};
 
@@ -276,6 +276,56 @@ fn a_budget_that_is_just_enough() {
     assert_eq!(after_p4().run(Settle(2)), (0, 2));
     assert_eq!(after_p4().run(Settle(0)), (12, 0));
     assert_eq!(after_p2().run(Settle(0)), (0, 0));
+}
+
+/// Every call, around the lengths of 1,023 slots, which were the most, and of 16,383. With a sound pool of 16,383 slots in the words, whole,
+/// cut or with more after it, a bad length is refused all the same; 1 comes before every other code but 15.
+#[test]
+fn every_call_at_every_length() {
+    let after = [7, 7, 7];
+    let sound = [&after_p1(16_383).words[..], &[0; 70_000]].concat();
+    for len in (0..=20).chain(4093..=4104).chain(65_531..=65_545).chain([65_600, 131_076]) {
+        let good = len % 4 == 0 && (8..=65_536).contains(&len);
+        // Of another length it is not even sound: N or the free chain is wrong.
+        let code = if len == 65_536 {
+            0
+        } else if good {
+            2
+        } else {
+            1
+        };
+        let words = &sound[..len];
+        assert_eq!(same_on(words), code, "{len} words");
+        assert_eq!(same_batch(words, &[1, 10], 2), (code, 0), "{len} words");
+        assert_eq!(same_batch(words, &[9], 0), if good { (3, 0) } else { (1, 0) }, "{len} words");
+        assert_eq!(same_batch(words, &[1, 10], 1), if good { (4, 0) } else { (1, 0) }, "{len} words");
+        assert_eq!(same_save(words, 40).0 .0, code, "{len} words");
+        assert_eq!(same_save(words, 2).0, if code == 0 { (14, 0) } else { (code, 0) }, "{len} words");
+        assert_eq!(same_load(words, &[0x80, 0x80, 0x01, 0x00]).0, if good { (13, 4) } else { (1, 0) }, "{len} words");
+        assert_eq!(
+            same_load(words, &[0xFF, 0x7F, 0x00]).0,
+            if code == 0 {
+                (0, 0)
+            } else if good {
+                (14, 0)
+            } else {
+                (1, 0)
+            },
+            "{len} words"
+        );
+        for (call, wrong) in [
+            (Call::MaySend { notice: 1, resident: 0, limit: 1 }, Call::MaySend { notice: 0, resident: 0, limit: 1 }),
+            (Call::Clear { notice: 1 }, Call::Clear { notice: 0 }),
+        ] {
+            assert_eq!(same_call(words, call).0 .0, code, "{call:?} on {len} words");
+            assert_eq!(same_call(words, wrong).0, (15, 0), "{wrong:?} on {len} words");
+        }
+        let mut lent = Lent::of(&[words, &after].concat());
+        assert_eq!(raw::prepare(&mut lent.words()[..len]), u32::from(!good), "prepare {len} words");
+        let prepared = lent.back();
+        assert_eq!(prepared[len..], after);
+        assert!(good || prepared[..len] == *words, "a refused prepare of {len} words wrote");
+    }
 }
 
 #[test]
