@@ -137,6 +137,6 @@ pub fn deepest_and_heavy(slots: usize, level: u32, shape: Shape) -> Set {
 }
 
 fn chain(first: u32, slots: usize, level: u32, shape: Shape) -> Set {
-    let keys: Vec<u32> = (first..).take(slots.div_ceil(2)).collect();
+    let keys: Vec<u32> = (0..slots.div_ceil(2) as u32).map(|i| first + i).collect();
     grown(&mut Rng::seeded("the deepest tree", 1), slots, &keys, level, shape, Weights::Red)
 }
