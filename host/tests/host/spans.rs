@@ -4,7 +4,7 @@
 use crate::ledger::held;
 use crate::pair::{library_batch, same_batch, Pair, Seen};
 use crate::pools::{deepest, deepest_from, grown, some_keys, Shape, Weights, LARGE, LARGE_KEYS, MOST_KEYS, SHAPES, WEIGHTS};
-use crate::random::{command, compared, near, share, span, Mix, MIXES, SMALL};
+use crate::random::{command, compared, near, share, shared, span, Mix, MIXES, SMALL};
 use crate::rng::Rng;
 use crate::threads::roomy;
 use crate::twin::{Answer, Call, Command, Set, MOST_SLOTS};
@@ -333,7 +333,7 @@ fn spans_in_the_largest_pools() {
                 grown(rng, MOST_SLOTS, &keys, level, shape, weights)
             });
             let highest = deepest_from(LAST - (MOST_KEYS as u32 - 1), MOST_SLOTS, Shape::ChainRight);
-            for set in anywhere.into_iter().chain([highest]) {
+            for set in shared([highest].into_iter().chain(anywhere)) {
                 let pair = Pair::holding(set);
                 let keys = held(&pair.words);
                 let last = MOST_KEYS - 1;
