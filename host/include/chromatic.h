@@ -81,7 +81,8 @@ enum chromatic_code {
     CHROMATIC_BUDGET_SPENT = 12,
     /* The call is refused whole, and no word or byte changes. */
     CHROMATIC_BAD_SAVED = 13,    /* no save writes these bytes: who was told is not known, so send nothing and do not prepare an empty pool;
-                                  * number: the place where the first bad number goes wrong, or else the count of the bytes */
+                                  * number: the place where the first bad number goes wrong, or else the count of the bytes. Bytes of
+                                  * more than CHROMATIC_MOST_SLOTS slots too: a later archive, which may have saved them, loads them */
     CHROMATIC_NO_FIT = 14,       /* too little room for the saved bytes; or a pool of another C than the one that was saved */
     CHROMATIC_OUT_OF_RANGE = 15, /* a notice, resident or limit outside its range: send nothing */
     CHROMATIC_ALL_USED = 16      /* attempts 1 to the limit are all marked: send nothing, asking again changes nothing */

@@ -444,8 +444,54 @@ fn slots_hold_so_many_keys() -> Result<(), Refused> {
             }
         }
     }
-    let [most, keys] = [Pool::MOST_SLOTS, Pool::words_for(127)];
-    assert_eq!((most, keys), (16_383, 512));
+    Ok(())
+}
+
+/// The same of the most slots, filled and emptied by whole batches: 8,192 keys.
+#[test]
+fn the_most_slots_hold_8192_keys() -> Result<(), Box<dyn Error>> {
+    assert_eq!(Pool::MOST_SLOTS, 16_383);
+    let mut pool = Pool::prepare(vec![0; Pool::words_for(Pool::MOST_SLOTS)])?;
+    assert_eq!((pool.slots(), pool.most_keys()), (16_383, 8192));
+    let keys: Vec<u32> = (0..8192).map(|i| i * 40_503 % 65_536).collect(); // in no order
+    for some in keys.chunks(256) {
+        let mut batch = Batch::new();
+        some.iter().try_for_each(|&key| batch.push_insert(key))?;
+        let answers: Vec<Answer> = pool.run(&batch)?.collect();
+        assert!(answers.into_iter().all(|answer| matches!(answer, Answer::Insert { answer: Inserted::NewlyMarked(_), .. })));
+    }
+    assert!(no_room(pool.insert(65_536)?) && present(pool.insert(keys[8191])?));
+    assert_eq!((pool.keys()?, pool.count(0..=u32::MAX)?), (8192, 8192));
+    let mut out = vec![0; pool.most_saved_bytes()?];
+    let again = Pool::load(vec![7; Pool::words_for(Pool::MOST_SLOTS)], pool.save(&mut out)?)?;
+    assert_eq!(again.report()?, pool.report()?);
+    for some in keys.chunks(256) {
+        let mut batch = Batch::new();
+        some.iter().try_for_each(|&key| batch.push_delete(key))?;
+        let answers: Vec<Answer> = pool.run(&batch)?.collect();
+        assert!(answers.into_iter().all(|answer| matches!(answer, Answer::Delete { answer: Deleted::Cleared { .. }, .. })));
+    }
+    assert_eq!(pool.keys()?, 0);
+    Ok(())
+}
+
+/// A pool is as large as the bytes say: of another size they are refused, and the refusal says what to do. Nothing is written.
+#[test]
+fn bytes_of_a_larger_pool() -> Result<(), Refused> {
+    let mut out = [0; Pool::saved_bytes_for(1023)];
+    let mut larger = Pool::prepare(vec![0; Pool::words_for(16_383)])?;
+    drop(mark(larger.insert(4411)?));
+    let saved = larger.save(&mut out)?;
+    let mut words = vec![7; Pool::words_for(1023)];
+    let refused = Pool::load(&mut words[..], saved).map(drop);
+    assert_eq!(refused, Err(Refused::NoFit));
+    assert!(refused.unwrap_err().to_string().contains("to load, lend words for as many slots as were saved"));
+    // C is 16,384, as a later version may save it.
+    let refused = Pool::load(&mut words[..], &[0x80, 0x80, 0x01, 0x00]).map(drop);
+    assert_eq!(refused, Err(Refused::BadSaved { wrong_at: 4 }));
+    assert!(refused.unwrap_err().to_string().contains("if a later version saved them, of more than 16383 slots, load them with that one"));
+    assert!(words.iter().all(|&word| word == 7));
+    assert!(present(Pool::load(vec![0; Pool::words_for(16_383)], saved)?.insert(4411)?));
     Ok(())
 }
 
@@ -990,6 +1036,13 @@ fn a_bound_above_32_bits() -> Result<(), Refused> {
     let report = Pool::resume(&mut words[..])?.report()?;
     assert!(report.bound > u32::MAX.into(), "{report:?}");
     assert_eq!(report.settle_budget(), u32::MAX);
+    // Of the most slots D is so too: 8,192 leaves of weight 255, each with 16,382 nodes outside.
+    let keys: Vec<u32> = (0..8192).collect();
+    let words = grown(&mut Rng::seeded("the heaviest tree", 9101), Pool::MOST_SLOTS, &keys, 255, Shape::Halves, Weights::Red).words();
+    let report = Pool::resume(words)?.report()?;
+    assert_eq!((report.excess_weight, report.over_distance), (8192 * 254, 8192 * 254 * 16_382));
+    assert!(report.over_distance > u32::MAX.into() && report.bound > 1 << 50, "{report:?}");
+    assert_eq!((report.keys(), report.settle_budget()), (8192, u32::MAX));
     Ok(())
 }
 
@@ -1054,7 +1107,8 @@ fn errors_are_errors() {
     assert_eq!(
         Refused::BadSaved { wrong_at: 41 }.to_string(),
         "refused with code 13: these bytes are no saved set: they go wrong at byte 41, counted from 0, or, where that is their count, are \
-         cut short or wrong as a whole; which texts went is not known: send none, do not begin empty, put back the bytes of the last save"
+         cut short or wrong as a whole; which texts went is not known: send none, do not begin empty, put back the bytes of the last save; \
+         if a later version saved them, of more than 16383 slots, load them with that one"
     );
     assert_eq!(
         Refused::NoFit.to_string(),

@@ -3,9 +3,10 @@
 use crate::causes::{cause, CAUSES};
 use crate::damage;
 use crate::pair::{assert_level, by_code, library_batch, same_load, same_on, same_save};
-use crate::pools::{deepest, grown, some_keys, Shape, Weights, LARGE, LARGE_KEYS, SHAPES, WEIGHTS};
-use crate::random::{seeds, share};
+use crate::pools::{deepest, grown, some_keys, Shape, Weights, LARGE, LARGE_KEYS, MOST_KEYS, SHAPES, WEIGHTS};
+use crate::random::{seeds, share, shared};
 use crate::rng::Rng;
+use crate::threads::roomy;
 use crate::twin::{self, write_number, Answer, Command, Edge, Set, MOST_SLOTS};
 use chromatic::raw;
 use std::time::Instant;
@@ -229,6 +230,29 @@ fn large_pools_over_a_restart() {
             let keys = some_keys(rng, keys, u32::MAX);
             restart(&grown(rng, LARGE, &keys, 0, Shape::Any, Weights::Red).words(), rng, seen);
         }
+    });
+    println!("compared forms of up to {longest} bytes");
+}
+
+/// The same of the most slots: 8,192 keys.
+#[test]
+fn largest_pools_over_a_restart() {
+    let mut longest = 0;
+    roomy(|| {
+        seeded("restarts of 16,383 slots", 19_000, 1, |rng, seen| {
+            let lift = 1 << 28;
+            let keys: Vec<u32> = some_keys(rng, MOST_KEYS, u32::MAX - lift).into_iter().map(|key| key + lift).collect();
+            for shape in shared(SHAPES) {
+                restart(&deepest(MOST_SLOTS, shape).words(), rng, seen);
+                let weights = rng.pick(&[Weights::Red, Weights::Heavy]);
+                longest = longest.max(restart(&grown(rng, MOST_SLOTS, &keys, 255, shape, weights).words(), rng, seen).len());
+            }
+            for keys in [0, 1] {
+                let keys = some_keys(rng, keys, u32::MAX);
+                restart(&grown(rng, MOST_SLOTS, &keys, 0, Shape::Any, Weights::Red).words(), rng, seen);
+            }
+            restart(&lived_in(rng, MOST_SLOTS), rng, seen);
+        });
     });
     println!("compared forms of up to {longest} bytes");
 }
@@ -572,7 +596,13 @@ fn nearly_good_forms() {
             good += u64::from(examine(&nearly_good(rng, LARGE), seen));
         }
     });
-    println!("compared nearly good forms: {good} are good; refused by cause: {:?}", seen.causes);
+    let mut large = 0;
+    roomy(|| {
+        seeded("nearly good forms of 16,383 slots", 16_900, 1, |rng, seen| {
+            shared(0..60).for_each(|_| large += u64::from(examine(&nearly_good(rng, MOST_SLOTS), seen)));
+        })
+    });
+    println!("compared nearly good forms: {good} are good; refused by cause: {:?}; of 16,383 slots {large}", seen.causes);
     assert!(share() > 1 || good > 1000 && seen.causes.iter().all(|&times| times > 10));
 }
 
