@@ -1,7 +1,7 @@
 -- 02 (viii): "A saved form written before reads as it did. An installation not yet updated refuses a saved C above 1,023 with 13 and writes
 -- nothing." A reader with a lower limit takes exactly the bytes that name a C within it, and makes the same State of them (`up-to-exactly`).
--- So an installation not yet updated refuses a form of a larger C with 13, the count of its bytes beside it, and leaves every word
--- (`before-refuses`); and today's load, into a pool of a size that it knew, answers and leaves what its load did, but for such a form, which
+-- So an installation not yet updated refuses bytes that begin with a larger C with 13, whatever follows, and leaves every word
+-- (`before-refuses`), the count of bytes being beside it where today's reader takes them (`before-refuses-form`); and today's load, into a pool of a size that it knew, answers and leaves what its load did, but for such a form, which
 -- gets 14 now (`load-as-before`; what it took is taken, `read-as-before`).
 -- Why: the limit is asked in one place of the reader, of C alone. Assumes nothing.
 use mathlib.Core.Path.{_≡_, refl, ap, sym, _∙_}
@@ -11,7 +11,7 @@ use mathlib.Core.List.{List, [], _∷_}
 use mathlib.Core.Option.{Option, none, some}
 use lib.Dec.{eqb, leb}
 use lib.ListN.{length}
-use Prim.Native.Nat.{ℕ, _≤_, _<_}
+use Prim.Native.Nat.{ℕ, _*_, _≤_, _<_}
 use native.Mathlib.Omega.{arith}
 use native.Mathlib.Decide.{decLt}
 use borrow.Author.Tests.{leb-true, leb-false, le-leb, lt-leb}
@@ -20,8 +20,11 @@ use Rattle.tree.specs.declared.Answer.the-variants.{Done}
 use Rattle.tree.specs.Codes.{mostSlots}
 use Rattle.tree.specs.State.{State, Top}
 use Rattle.format.specs.Words.{lengthGood, slotsIn}
+use Rattle.encoding.specs.declared.Number.{Number}
+use Rattle.encoding.specs.declared.Number.the-variants.{Read, Wrong}
+use Rattle.encoding.specs.Numbers.{number}
 use Rattle.saved.specs.Saved.{withRest}
-use Rattle.saved.specs.Loaded.{Numbers, numbers, misread, numbersIn, topFrom, isCount, withTop, stateFrom, loadedNumbers, loadedUpTo, loaded, placeIn, badPlace}
+use Rattle.saved.specs.Loaded.{Numbers, numbers, misread, before, numbersAt, nodeNumbers, countNumbers, numbersIn, topFrom, isCount, withTop, stateFrom, loadedNumbers, loadedUpTo, loaded, placeIn, badPlace}
 use Rattle.saved.specs.Calls.{Call, refuses, loadState, loadCall, placeWord}
 use Rattle.saved.specs.Older.{mostBefore, loadBefore}
 use Rattle.saved.proofs.Restarts.{load-differs}
@@ -41,15 +44,15 @@ unfolding cut withTop withRest
 cut-above most c h none = refl
 cut-above most c h (some t) = rw (lt-leb c most h, cut)
 
-module _ (few most : ℕ) (h : few ≤ most) where
-  none-above : (c n : ℕ) → few < c → isCount few c n ≡ false
-  unfolding isCount
-  none-above c n k = rw (lt-leb c few k) (go (leb 1 c))
-    where
-      go : (b : Bool) → (b && (false && leb n c)) ≡ false
-      go true = refl
-      go false = refl
+none-above : (most c n : ℕ) → most < c → isCount most c n ≡ false
+unfolding isCount
+none-above most c n h = rw (lt-leb c most h) (go (leb 1 c))
+  where
+    go : (b : Bool) → (b && (false && leb n c)) ≡ false
+    go true = refl
+    go false = refl
 
+module _ (few most : ℕ) (h : few ≤ most) where
   same-within : (c n : ℕ) → c ≤ few → isCount few c n ≡ isCount most c n
   unfolding isCount
   same-within c n k = rw (le-leb c few k, le-leb c most (omega arith))
@@ -61,8 +64,8 @@ module _ (few most : ℕ) (h : few ≤ most) where
   state-cut (c ∷ (n ∷ vs)) = go (decLt few c) (isCount most c n) refl
     where
       go : Dec (few < c) → (b : Bool) → isCount most c n ≡ b → stateFrom few (c ∷ (n ∷ vs)) ≡ cut few (stateFrom most (c ∷ (n ∷ vs)))
-      go (yes k) true e = rw (none-above c n k, e, stateFrom, cut-above few c k (topFrom n vs))
-      go (yes k) false e = rw (none-above c n k, e, stateFrom)
+      go (yes k) true e = rw (none-above few c n k, e, stateFrom, cut-above few c k (topFrom n vs))
+      go (yes k) false e = rw (none-above few c n k, e, stateFrom)
       go (no k) true e = rw (same-within c n (omega arith), e, stateFrom, cut-within few c (omega arith) (topFrom n vs))
       go (no k) false e = rw (same-within c n (omega arith), e, stateFrom)
 
@@ -97,6 +100,25 @@ module _ (few most : ℕ) (h : few ≤ most) where
       go none f e = let z : _≡_ {A = ℕ} 0 1 = cc in absurd (omega arith)
       go (some T) f e = let w = within T (leb (T .slots) few) refl e in (f ∙ w .0, w .1)
 
+-- Bytes that begin with a C above the limit.
+module _ (most c n : ℕ) (h : most < c) where
+  above-none : (end : ℕ) (x : Numbers) → loadedNumbers most end (before c (before n x)) ≡ none
+  unfolding loadedNumbers before stateFrom
+  above-none end (misread j) = refl
+  above-none end (numbers vs next) = go (eqb next end) refl
+    where
+      go : (b : Bool) → eqb next end ≡ b → loadedNumbers most end (numbers (c ∷ (n ∷ vs)) next) ≡ none
+      go true e = rw (e, loadedNumbers, none-above most c n h, stateFrom)
+      go false e = rw (e, loadedNumbers)
+
+above-unread : (most : ℕ) (bytes : List ℕ) {c next : ℕ} → number bytes 0 ≡ Read c next → most < c → loadedUpTo most bytes ≡ none
+unfolding loadedUpTo numbersIn countNumbers nodeNumbers loadedNumbers
+above-unread most bytes {c} {next} e h = rw e (go (number bytes next))
+  where
+    go : (x : Number) → loadedNumbers most (length bytes) (nodeNumbers bytes c x) ≡ none
+    go (Read n after) = above-none most c n h (length bytes) (numbersAt (2 * n) bytes after)
+    go (Wrong j) = refl
+
 -- Of bytes that are read no number goes wrong.
 read-place : (most : ℕ) (bytes : List ℕ) {S : State} → loadedUpTo most bytes ≡ some S → badPlace bytes ≡ length bytes
 unfolding loadedUpTo loadedNumbers badPlace placeIn
@@ -124,15 +146,19 @@ module _ (p bytes : List ℕ) (long : lengthGood p ≡ true) (known : slotsIn p 
   unfolding loadBefore
   before-is = rw (long, le-leb (slotsIn p) mostBefore known, loadBefore)
 
+  -- "An installation not yet updated refuses a saved C above 1,023 with 13 and writes nothing."
+  pub before-refuses : {c next : ℕ} → number bytes 0 ≡ Read c next → mostBefore < c → loadBefore p bytes ≡ refuses (BadSaved (placeWord (badPlace bytes))) p
+  unfolding loadState
+  before-refuses e large = before-is ∙ rw (above-unread mostBefore bytes e large)
+
   module _ {S : State} (e : loaded bytes ≡ some S) (large : mostBefore < S .slots) where
     unread : loadedUpTo mostBefore bytes ≡ none
     unfolding cut
     unread = loaded-cut mostBefore mostSlots (omega arith) bytes ∙ rw (e, lt-leb (S .slots) mostBefore large, cut)
 
-    -- "An installation not yet updated refuses a saved C above 1,023 with 13 and writes nothing."
-    pub before-refuses : loadBefore p bytes ≡ refuses (BadSaved (placeWord (length bytes))) p
+    pub before-refuses-form : loadBefore p bytes ≡ refuses (BadSaved (placeWord (length bytes))) p
     unfolding loadState
-    before-refuses = before-is ∙ rw (unread, read-place mostSlots bytes e)
+    before-refuses-form = before-is ∙ rw (unread, read-place mostSlots bytes e)
 
     now-refuses : loadCall p bytes ≡ refuses NoFit p
     now-refuses = load-differs p bytes long e (λ f. omega arith)
@@ -151,6 +177,6 @@ module _ (p bytes : List ℕ) (long : lengthGood p ≡ true) (known : slotsIn p 
       go : (x : Option State) → loaded bytes ≡ x → (loadCall p bytes ≡ loadBefore p bytes) ⊎ LargerForm p bytes
       go none e = inl (same-call (loaded-cut mostBefore mostSlots (omega arith) bytes ∙ rw e))
       go (some S) e = elim (decLt mostBefore (S .slots)) [
-        | yes k ↦ inr (record { state = S; is-read = e; large = k; then-13 = before-refuses e k; now-14 = now-refuses e k })
+        | yes k ↦ inr (record { state = S; is-read = e; large = k; then-13 = before-refuses-form e k; now-14 = now-refuses e k })
         | no k ↦ inl (same-call (up-to-exactly mostBefore mostSlots (omega arith) bytes .1 (e, omega arith) ∙ sym e))
       ]

@@ -12,6 +12,7 @@ use Rattle.saved.specs.Calls.{Call, refuses, loadState}
 abbrev pub mostBefore : ℕ
 mostBefore = 1023
 
+-- ".. with 13 and writes nothing"; "A saved form written before reads as it did."
 unfoldable pub loadBefore : List ℕ → List ℕ → Call
 loadBefore p bytes = elim (lengthGood p && leb (slotsIn p) mostBefore) [
   | false ↦ refuses PoolLength p
