@@ -375,7 +375,16 @@ fn telling(numbers: &[u32], own: u32) -> Vec<u32> {
         u32::MAX - 1,
         u32::MAX,
     ];
-    values.extend([own.wrapping_sub(2), own.wrapping_sub(1), own.wrapping_add(1), own.wrapping_add(2), own ^ 1, own ^ 1 << 31]);
+    values.extend([
+        own.wrapping_sub(2),
+        own.wrapping_sub(1),
+        own.wrapping_add(1),
+        own.wrapping_add(2),
+        own ^ 1,
+        own ^ 1 << 14,
+        own ^ 1 << 16,
+        own ^ 1 << 31,
+    ]);
     values.extend(numbers);
     values.sort_unstable();
     values.dedup();
