@@ -3,6 +3,8 @@
  * CHROMATIC_LEVEL. Under interface 5 and before it was 0: such a pool with two keys or more is refused with CHROMATIC_RULES_BROKEN. Save
  * it with an archive of interface 5, which takes those from before it too, and load the bytes with this one; to prepare it would forget
  * every mark.
+ * A call takes up to 88 bytes of stack for each slot (measured on x86-64): 88 KiB for 1,023 slots, 1,408 KiB for the most. Of a load these
+ * are the slots that the bytes name, whatever the pool has.
  * Lengths are in elements. A pointer may be NULL where its length is 0, and nowhere else. During a call what is written (pool,
  * answers, out) overlaps nothing else that is lent, the batch and the saved bytes included.
  * A batch is commands one after another, each an operation and its arguments. Numbers in it are seven-bit groups, the lowest first, the

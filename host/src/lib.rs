@@ -156,7 +156,8 @@
 //! was told. **Then nothing is sent.** An empty set in their place sends every text again, so a service never begins one by
 //! itself: somebody does, once, for a new installation.
 //!
-//! Bytes that an earlier version of this crate saved load as they are. The words of an earlier version need not resume:
+//! Bytes that an earlier version of this crate saved load as they are, into as many slots as they were saved of; README.md has a
+//! program that takes a set to more. The words of an earlier version need not resume:
 //! [`Pool::resume`] says which, and how they come over.
 //!
 //! What a load refuses is all bytes that no save writes. A fault of the disk that makes another key of one is not among

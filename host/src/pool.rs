@@ -27,6 +27,9 @@ impl<W: DerefMut<Target = [u32]>> Words for W {}
 ///
 /// A pool has C slots, from 1 to 16,383. C slots hold (C+1)/2 keys: 1 holds 1, 127 hold 64, 16,383 hold 8,192.
 ///
+/// A call takes up to 88 bytes of stack for each slot (measured on x86-64): a thread of 2 MiB, as Rust makes them, is enough for
+/// any pool, and one of 256 KiB for 1,023 slots.
+///
 /// Proved: `passes-after`, `history-passing` (a call leaves a pool that passes the audit).
 pub struct Pool<W> {
     words: W,
@@ -163,6 +166,9 @@ impl<W: Words> Pool<W> {
     /// assert!(matches!(pool.insert(4411)?, Inserted::KeyPresent));
     /// # Ok::<(), chromatic::Refused>(())
     /// ```
+    ///
+    /// A load goes as deep as the bytes say, whatever the pool has: a thread that keeps to fewer slots for its stack's sake loads no
+    /// bytes but its own.
     ///
     /// # Errors
     /// [`Refused::WrongLength`]; [`Refused::BadSaved`] for bytes that no save writes, with the byte at which they go wrong;

@@ -350,32 +350,10 @@ fn patients(rng: &mut Rng) -> Vec<Vec<u8>> {
 
 /// Values that tell, in place of a number: limits and their neighbours, and what the form holds anyway.
 fn telling(numbers: &[u32], own: u32) -> Vec<u32> {
-    let mut values = vec![
-        0,
-        1,
-        2,
-        3,
-        4,
-        5,
-        127,
-        128,
-        509,
-        510,
-        511,
-        512,
-        513,
-        1022,
-        1023,
-        1024,
-        16_382,
-        16_383,
-        16_384,
-        1 << 16,
-        1 << 31,
-        u32::MAX - 1,
-        u32::MAX,
-    ];
-    values.extend([own.wrapping_sub(2), own.wrapping_sub(1), own.wrapping_add(1), own.wrapping_add(2), own ^ 1, own ^ 1 << 31]);
+    let mut values = vec![0, 1, 2, 3, 4, 5, 127, 128, 509, 510, 511, 512, 513, 1022, 1023, 1024, 16_382, 16_383, 16_384];
+    values.extend([1 << 16, 1 << 31, u32::MAX - 1, u32::MAX]);
+    values.extend([own.wrapping_sub(2), own.wrapping_sub(1), own.wrapping_add(1), own.wrapping_add(2)]);
+    values.extend([0, 14, 16, 31].map(|bit| own ^ 1 << bit));
     values.extend(numbers);
     values.sort_unstable();
     values.dedup();

@@ -270,6 +270,28 @@ fn kind_6_with_both_children_overweighted_and_at_a_red_v() {
     assert_eq!((pair.slot(4)[3], pair.slot(5)[3], pair.slot(6)[3]), (1, 8, 8));
 }
 
+/// Every slot counts, the last too: there alone a step is allowed.
+#[test]
+fn the_last_slot() {
+    for slots in [3, 127, 1023, 1024, 16_383] {
+        let last = slots as u32;
+        let tree = edge(1, inner(last, 10, edge(2, leaf(1, 10)), edge(2, leaf(2, 20))));
+        let pair = Pair::holding(Set { slots, tree: Some(tree), free: (3..last).rev().collect() });
+        for (command, answer) in [
+            (Settle(9), (0, 1)),
+            (Settle(0), (12, 0)),
+            (Step(last, 6), (0, 6)),
+            (Step(last, 1), (10, 0)),
+            (Step(last + 1, 6), (8, 0)),
+            (Step(last | 1 << 14, 6), (8, 0)),
+            (Step(last | 1 << 16, 6), (8, 0)),
+            (Delete(10), (0, 1)),
+        ] {
+            assert_eq!(pair.clone().run(command), answer, "{command:?}, C = {slots}");
+        }
+    }
+}
+
 /// "Where the budget is just enough": settle looks for a step first and at the budget second.
 #[test]
 fn a_budget_that_is_just_enough() {
