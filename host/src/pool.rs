@@ -95,7 +95,7 @@ impl Pool<&mut [u32]> {
     pub const MOST_SLOTS: usize = layout::MOST_SLOTS;
 
     /// The words of a pool of `slots` slots, which hold (slots + 1)/2 keys: 127 slots hold 64 keys. For K keys take
-    /// 2K - 1 slots.
+    /// 2K - 1 slots. The most slots are 256 KiB of words: lend a `Vec` or a `static` then, and no array on the stack.
     ///
     /// # Panics
     /// If `slots` is not from 1 to 16,383. As an array's length it does not compile then.

@@ -128,7 +128,7 @@ pub fn slots_in(pool: &[u32]) -> usize
     if parts == 0 { 0 } else { parts - 1 }
 }
 
-// The last slot: C, and no more than MOST_SLOTS of a pool that is longer than 01 allows.
+// The last slot: C, and no more than MOST_SLOTS of a pool that is longer than one may be.
 pub fn last_slot(pool: &[u32]) -> u32
     ensures { λ r. ⌜ r ≡ lastSlot (now (pool .entry)) ⌝ }
 {
