@@ -29,8 +29,8 @@ use Rattle.encoding.specs.Causes.{Cause, slot-above, FirstCause, no-cause, firs
 use Rattle.encoding.proofs.Causes.{code-exactly, from-lowest}
 use Rattle.encoding.proofs.Endings.{ran-ends}
 use Rattle.encoding.proofs.Performs.{run-sound, small-append}
-use Rattle.commands.specs.Written.{commandBytes, batchBytes, Fits, AllFit}
-use Rattle.commands.proofs.Written.{written-read, command-bytes, one-command}
+use Rattle.commands.specs.Written.{commandBytes, Fits, AllFit}
+use Rattle.commands.proofs.Written.{command-bytes, one-command}
 use Rattle.set.specs.Set.{Passing}
 use Rattle.set.specs.Balance.{boundNumber, Balanced}
 use Rattle.set.proofs.Passing.{passing-state}

@@ -14,9 +14,8 @@ use lib.ListN.{length}
 use Prim.Native.Nat.{ℕ, _*_, _≤_, _<_}
 use native.Mathlib.Omega.{arith}
 use native.Mathlib.Decide.{decLt}
-use borrow.Author.Tests.{leb-true, leb-false, le-leb, lt-leb}
+use borrow.Author.Tests.{leb-true, le-leb, lt-leb}
 use Rattle.tree.specs.declared.Refusal.the-variants.{BadSaved, NoFit}
-use Rattle.tree.specs.declared.Answer.the-variants.{Done}
 use Rattle.tree.specs.Codes.{mostSlots}
 use Rattle.tree.specs.State.{State, Top}
 use Rattle.format.specs.Words.{lengthGood, slotsIn}
@@ -25,7 +24,7 @@ use Rattle.encoding.specs.declared.Number.the-variants.{Read, Wrong}
 use Rattle.encoding.specs.Numbers.{number}
 use Rattle.saved.specs.Saved.{withRest}
 use Rattle.saved.specs.Loaded.{Numbers, numbers, misread, before, numbersAt, nodeNumbers, countNumbers, numbersIn, topFrom, isCount, withTop, stateFrom, loadedNumbers, loadedUpTo, loaded, placeIn, badPlace}
-use Rattle.saved.specs.Calls.{Call, refuses, loadState, loadCall, placeWord}
+use Rattle.saved.specs.Calls.{refuses, loadState, loadCall, placeWord}
 use Rattle.saved.specs.Older.{mostBefore, loadBefore}
 use Rattle.saved.proofs.Restarts.{load-differs}
 
