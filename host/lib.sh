@@ -1,11 +1,11 @@
-# Shared by archive, test, accesses, bench and faults in this folder (sourced, POSIX sh): makes the archives that the Rust host links.
+# Shared by archive, test, accesses, older, bench and faults in this folder (sourced, POSIX sh): makes the archives that the Rust host links.
 #   make_archives    sets $native (folder of an archive for this machine's own processor) and $shipped (folder of the
 #                    archive that rt staticlib writes, for x86-64; empty where there is none)
 #   make_x86_rust    on aarch64: puts an x86-64 Rust below $HOST_CACHE and fits x86_cargo; fails with the cause in $why
 # Environment:
 #   CHROMATIC_ARCHIVE=DIR  takes DIR/libchromatic.a, made for this processor, and runs no rt (the crate's build script reads it too)
 #   HOST_TARGET=DIR        everything but the archives is built below it (the repository's target/host)
-#   HOST_CACHE=DIR         where downloads are kept (HOST_TARGET; rt ci removes target/, so name another place to keep them)
+#   HOST_CACHE=DIR         where downloads and older commits are kept (HOST_TARGET; rt ci removes target/, so name another place to keep them)
 # Nothing is installed, and nothing changes outside target/ and these folders.
 
 say() { printf '%s: %s\n' "$me" "$*"; }

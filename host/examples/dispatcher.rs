@@ -24,7 +24,7 @@ use std::process::ExitCode;
 use std::{fs, mem};
 use store::{Done, Service, Store};
 
-/// 15 slots hold 8 marks, which is soon full. Take up to 1,023, which hold 512.
+/// 15 slots hold 8 marks, which is soon full. Take up to 16,383, which hold 8,192.
 const SLOTS: usize = 15;
 /// Steps of balancing that a poll has time for.
 const SPARE_STEPS: u32 = 200;

@@ -1,8 +1,10 @@
 /* The set of marks for C and C++ hosts: libchromatic.a. Each function answers for every input and allocates nothing.
- * A pool is 4 + 4C words, C from 1 to 1,023. C slots hold (C+1)/2 keys: 127 slots hold 64 keys. The fourth word is L, the report's
+ * A pool is 4 + 4C words, C from 1 to 16,383. C slots hold (C+1)/2 keys: 127 slots hold 64 keys. The fourth word is L, the report's
  * CHROMATIC_LEVEL. Under interface 5 and before it was 0: such a pool with two keys or more is refused with CHROMATIC_RULES_BROKEN. Save
  * it with an archive of interface 5, which takes those from before it too, and load the bytes with this one; to prepare it would forget
  * every mark.
+ * A call takes up to 88 bytes of stack for each slot (measured on x86-64): 88 KiB for 1,023 slots, 1,408 KiB for the most. Of a load these
+ * are the slots that the bytes name, whatever the pool has.
  * Lengths are in elements. A pointer may be NULL where its length is 0, and nowhere else. During a call what is written (pool,
  * answers, out) overlaps nothing else that is lent, the batch and the saved bytes included.
  * A batch is commands one after another, each an operation and its arguments. Numbers in it are seven-bit groups, the lowest first, the
@@ -26,8 +28,8 @@ extern "C" {
 /* The number of this interface; docs/INTERFACE.md says what each has. The function returns it. With GCC and Clang every file that
  * includes this header refers to the function, so that a program does not link with an archive of another interface; with
  * another compiler, call it once. */
-#define CHROMATIC_INTERFACE 7
-uint32_t chromatic_interface_7(void);
+#define CHROMATIC_INTERFACE 8
+uint32_t chromatic_interface_8(void);
 #ifdef __GNUC__
 __attribute__((used))
 #ifdef __has_attribute
@@ -35,7 +37,7 @@ __attribute__((used))
 __attribute__((retain)) /* from --gc-sections */
 #endif
 #endif
-static uint32_t (*const chromatic_interface_needed)(void) = chromatic_interface_7;
+static uint32_t (*const chromatic_interface_needed)(void) = chromatic_interface_8;
 #endif
 
 #ifdef __GNUC__
@@ -45,7 +47,7 @@ static uint32_t (*const chromatic_interface_needed)(void) = chromatic_interface_
 #endif
 
 #define CHROMATIC_POOL_WORDS(slots) (4 + 4 * CHROMATIC_AS(size_t, slots)) /* slots from 1 to CHROMATIC_MOST_SLOTS */
-#define CHROMATIC_MOST_SLOTS 1023                                         /* which hold 512 keys */
+#define CHROMATIC_MOST_SLOTS 16383                                        /* which hold 8,192 keys */
 #define CHROMATIC_MOST_COMMANDS 256
 #define CHROMATIC_COMMAND_BYTES 11 /* at the most: an operation and two arguments */
 #define CHROMATIC_ANSWER_WORDS 2 /* for each command: code, number */
@@ -81,7 +83,8 @@ enum chromatic_code {
     CHROMATIC_BUDGET_SPENT = 12,
     /* The call is refused whole, and no word or byte changes. */
     CHROMATIC_BAD_SAVED = 13,    /* no save writes these bytes: who was told is not known, so send nothing and do not prepare an empty pool;
-                                  * number: the place where the first bad number goes wrong, or else the count of the bytes */
+                                  * number: the place where the first bad number goes wrong, or else the count of the bytes. Bytes of
+                                  * more than CHROMATIC_MOST_SLOTS slots too: a later archive, which may have saved them, loads them */
     CHROMATIC_NO_FIT = 14,       /* too little room for the saved bytes; or a pool of another C than the one that was saved */
     CHROMATIC_OUT_OF_RANGE = 15, /* a notice, resident or limit outside its range: send nothing */
     CHROMATIC_ALL_USED = 16      /* attempts 1 to the limit are all marked: send nothing, asking again changes nothing */

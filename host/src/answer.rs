@@ -10,7 +10,7 @@ use core::fmt;
 #[must_use = "a refused call did nothing"]
 #[non_exhaustive]
 pub enum Refused {
-    /// Code 1: the pool's length is not 4 + 4C with C from 1 to 1,023. (C slots hold (C+1)/2 keys, 127 hold 64.)
+    /// Code 1: the pool's length is not 4 + 4C with C from 1 to 16,383. (C slots hold (C+1)/2 keys, 127 hold 64.)
     WrongLength,
     /// Code 2: the pool breaks an audit rule. What it says about marks means nothing: send no text by it. A pool that an archive
     /// of interface 5 or before left with two keys or more breaks one too: [`Pool::resume`](crate::Pool::resume) says how it
@@ -29,7 +29,9 @@ pub enum Refused {
     /// Code 4: fewer than two answer words per command.
     FewAnswers,
     /// Code 13: no save writes these bytes. They are cut short, damaged, or something else. Which texts went is not known
-    /// then: send none, and do not [`prepare`](crate::Pool::prepare) an empty set in their place.
+    /// then: send none, and do not [`prepare`](crate::Pool::prepare) an empty set in their place. Bytes of more slots than
+    /// [`MOST_SLOTS`](crate::Pool::MOST_SLOTS), which a later version may have saved, are refused so too: load them with that one.
+    /// (0.8.0 and before refuse bytes of more than 1,023 slots.)
     BadSaved {
         /// The byte at which they go wrong, counted from 0. C, N and two numbers for each of N nodes are read before anything is
         /// judged. Of the first bad number it is the fifth byte if that is above 0F; else the end of the bytes, one past the
@@ -123,7 +125,8 @@ impl fmt::Display for Refused {
                 f,
                 "these bytes are no saved set: they go wrong at byte {wrong_at}, counted from 0, or, where that is their count, are cut \
                  short or wrong as a whole; which texts went is not known: send none, do not begin empty, put back the bytes of the last \
-                 save"
+                 save; if a later version saved them, of more than {} slots, load them with that one",
+                layout::MOST_SLOTS
             ),
             Refused::NoFit => f.write_str(
                 "it does not fit; to save, lend more room (Pool::saved_bytes_for gives enough); to load, lend words for as many slots as \

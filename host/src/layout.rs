@@ -8,7 +8,7 @@ const SAVED_HEAD_BYTES: usize = 2 + 2;
 /// Twice the weight, and 1 for an inner node: below 16,384. Then the key or router: 32 bits.
 const SAVED_NODE_BYTES: usize = 2 + 5;
 /// The largest C.
-pub(crate) const MOST_SLOTS: usize = 1023;
+pub(crate) const MOST_SLOTS: usize = 16_383;
 
 /// The words of a pool of `slots` slots.
 pub(crate) const fn words_for(slots: usize) -> usize {

@@ -46,7 +46,7 @@
 //! | `pool.insert(key)?;`, `pool.run(&batch)?;`, `raw::batch(..);`, and so for every command's answer | a warning, `unused_must_use`; make it an error in your crate | `insert_unread`, `answers_unread`, `raw_unread`, `each_unread` |
 //! | `pool.save(&mut out);`, `Pool::load(words, saved);`: done, or refused? | the same warning, `unused_must_use` | `save_unread` |
 //! | a second save into the same `out` while the first one's bytes are not stored | E0499 | `saved_over` |
-//! | an array of `Pool::words_for(0)` or of `words_for(1024)` words; of `saved_bytes_for(0)` or `saved_bytes_for(1024)` bytes | E0080 | `no_slots` |
+//! | an array of `Pool::words_for(0)` or of `words_for(16_384)` words; of `saved_bytes_for(0)` or `saved_bytes_for(16_384)` bytes | E0080 | `no_slots` |
 //! | code for 0.3.0, which takes code 3's number for the byte where the command begins: `Refused::BadCommand { byte, .. }` | E0026: the byte at which it goes wrong is `wrong_at` | `old_place` |
 //! | code for 0.4.0, which takes the report's third number for a count of overweighted edges: `report.overweighted` | E0609: it is the excess weight, [`Report::excess_weight`] | `old_overweighted` |
 //! | a `match` without a rest on [`Refused`], [`Command`] or any answer but those of insert and [`Pool::may_send`]; a [`Report`] made up: they can grow | E0004, E0639 | `rest_forgotten`, `report_made_up` |
@@ -156,7 +156,8 @@
 //! was told. **Then nothing is sent.** An empty set in their place sends every text again, so a service never begins one by
 //! itself: somebody does, once, for a new installation.
 //!
-//! Bytes that an earlier version of this crate saved load as they are. The words of an earlier version need not resume:
+//! Bytes that an earlier version of this crate saved load as they are, into as many slots as they were saved of; README.md has a
+//! program that takes a set to more. The words of an earlier version need not resume:
 //! [`Pool::resume`] says which, and how they come over.
 //!
 //! What a load refuses is all bytes that no save writes. A fault of the disk that makes another key of one is not among

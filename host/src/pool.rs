@@ -25,7 +25,10 @@ impl<W: DerefMut<Target = [u32]>> Words for W {}
 /// either takes `&mut Pool<impl Words>`. While the pool lives nobody else can write the words, and every call keeps the
 /// audit rules, so they hold until it is dropped.
 ///
-/// A pool has C slots, from 1 to 1,023. C slots hold (C+1)/2 keys: 1 holds 1, 127 hold 64, 1,023 hold 512.
+/// A pool has C slots, from 1 to 16,383. C slots hold (C+1)/2 keys: 1 holds 1, 127 hold 64, 16,383 hold 8,192.
+///
+/// A call takes up to 88 bytes of stack for each slot (measured on x86-64): a thread of 2 MiB, as Rust makes them, is enough for
+/// any pool, and one of 256 KiB for 1,023 slots.
 ///
 /// Proved: `passes-after`, `history-passing` (a call leaves a pool that passes the audit).
 pub struct Pool<W> {
@@ -88,14 +91,14 @@ fn keys_of(nodes: u64) -> u64 {
 
 /// Written `Pool::words_for`, whatever holds the words.
 impl Pool<&mut [u32]> {
-    /// The most slots of a pool, 1,023. They hold 512 keys.
+    /// The most slots of a pool, 16,383. They hold 8,192 keys.
     pub const MOST_SLOTS: usize = layout::MOST_SLOTS;
 
     /// The words of a pool of `slots` slots, which hold (slots + 1)/2 keys: 127 slots hold 64 keys. For K keys take
-    /// 2K - 1 slots.
+    /// 2K - 1 slots. The most slots are 256 KiB of words: lend a `Vec` or a `static` then, and no array on the stack.
     ///
     /// # Panics
-    /// If `slots` is not from 1 to 1,023. As an array's length it does not compile then.
+    /// If `slots` is not from 1 to 16,383. As an array's length it does not compile then.
     #[must_use]
     pub const fn words_for(slots: usize) -> usize {
         layout::words_for(slots)
@@ -163,6 +166,9 @@ impl<W: Words> Pool<W> {
     /// assert!(matches!(pool.insert(4411)?, Inserted::KeyPresent));
     /// # Ok::<(), chromatic::Refused>(())
     /// ```
+    ///
+    /// A load goes as deep as the bytes say, whatever the pool has: a thread that keeps to fewer slots for its stack's sake loads no
+    /// bytes but its own.
     ///
     /// # Errors
     /// [`Refused::WrongLength`]; [`Refused::BadSaved`] for bytes that no save writes, with the byte at which they go wrong;

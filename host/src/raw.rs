@@ -7,7 +7,7 @@
 
 mod c {
     extern "C" {
-        pub fn chromatic_interface_7() -> u32;
+        pub fn chromatic_interface_8() -> u32;
         pub fn chromatic_prepare(pool: *mut u32, pool_len: usize) -> u32;
         pub fn chromatic_audit(pool: *const u32, pool_len: usize) -> u32;
         pub fn chromatic_report(pool: *const u32, pool_len: usize, index: u32) -> u64;
@@ -26,15 +26,15 @@ mod c {
     }
 }
 
-/// The number of the interface that this crate is made for, 7; docs/INTERFACE.md says what each number has. The library's
+/// The number of the interface that this crate is made for, 8; docs/INTERFACE.md says what each number has. The library's
 /// function is named for it, and every function here calls it, so that an archive of another interface does not link.
 #[must_use]
 pub fn interface() -> u32 {
     // SAFETY: it takes nothing and changes nothing.
-    unsafe { c::chromatic_interface_7() }
+    unsafe { c::chromatic_interface_8() }
 }
 
-/// Makes a pool empty. Gives 0; or 1, changing nothing, if the length is not 4 + 4C with C from 1 to 1,023. (C slots hold
+/// Makes a pool empty. Gives 0; or 1, changing nothing, if the length is not 4 + 4C with C from 1 to 16,383. (C slots hold
 /// (C+1)/2 keys, 127 hold 64.)
 #[must_use = "a refused pool is not prepared"]
 pub fn prepare(pool: &mut [u32]) -> u32 {

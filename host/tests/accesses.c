@@ -231,9 +231,9 @@ static const struct counts *plus(const struct counts *a, const struct counts *b)
     return sum_of(a, 1, b);
 }
 
-/* A step at slot 1,024, which is above every C. */
+/* A step at slot 16,384, which is above every C. */
 static struct call idle_call(const struct pool *on, const struct batch *before) {
-    static const uint8_t command[] = {CHROMATIC_STEP, 0x80, 8, 4};
+    static const uint8_t command[] = {CHROMATIC_STEP, 0x80, 0x80, 1, 4};
     const struct batch batch = then(before, command, sizeof command);
 
     return call(on, &batch);

@@ -7,6 +7,7 @@ dependent() {
     one "README.md's program in a fresh crate prints what the page says" "$log" pasted "$root/README.md" one
     one "host/README.md's program in a fresh crate prints what the page says" "$log" pasted "$root/host/README.md" two
     one "and so does its program of the send limit" "$log" pasted "$root/host/README.md" three '### The send limit'
+    one "and its program for more slots" "$log" pasted "$root/host/README.md" six '### How large'
     one "and README.md's" "$log" pasted "$root/README.md" four '### The send limit'
     one "and host/README.md's of a span of keys" "$log" pasted "$root/host/README.md" five '### A span of keys'
     one "the crate brings no other crate" "$log" no_other_crate

@@ -1,5 +1,5 @@
 /* The header compiles as C and C++, and its declarations fit the archive: P1, P6, a set saved and loaded, the excess weight, a pool of before,
- * spans of keys, the send limit, the order of refusals, the places where a batch and saved bytes go wrong, NULL with length 0. */
+ * spans of keys, the send limit, the largest pool, the order of refusals, the places where a batch and saved bytes go wrong, NULL with length 0. */
 #include "../include/chromatic.h"
 #include <stdio.h>
 #include <string.h>
@@ -73,6 +73,39 @@ static void limits(void) {
     }
 }
 
+/* A set of the most slots: saved, loaded, and refused as one of a slot more is. 4,100 words, of 1,024 slots, are a pool too. */
+static void largest(void) {
+    static uint32_t pool[CHROMATIC_POOL_WORDS(CHROMATIC_MOST_SLOTS + 1)];
+    static uint8_t out[CHROMATIC_SAVED_BYTES(CHROMATIC_MOST_SLOTS)];
+    const uint8_t empty[] = {0xFF, 0x7F, 0}, too_many[] = {0x80, 0x80, 1, 0}, insert[] = {CHROMATIC_INSERT, 10, CHROMATIC_INSERT, 20};
+    const size_t words = CHROMATIC_POOL_WORDS(CHROMATIC_MOST_SLOTS);
+    const uint8_t expected[] = {0xFF, 0x7F, 3, 3, 10, 2, 10, 2, 20};
+    uint32_t answers[2 * CHROMATIC_ANSWER_WORDS];
+    size_t more;
+
+    check(CHROMATIC_MOST_SLOTS == 16383 && words == 65536, "the most slots and their words");
+    check(chromatic_prepare(pool, CHROMATIC_POOL_WORDS(1024)) == CHROMATIC_GOOD && chromatic_audit(pool, 4100) == CHROMATIC_GOOD, "1,024 slots");
+    check(chromatic_prepare(pool, words) == CHROMATIC_GOOD, "the most slots");
+    check(chromatic_save(pool, words, out, sizeof out) == sizeof empty && memcmp(out, empty, sizeof empty) == 0, "an empty set saved");
+    check(chromatic_batch(pool, words, insert, sizeof insert, answers, 2 * CHROMATIC_ANSWER_WORDS) == 0, "two inserts");
+    check(chromatic_save(pool, words, out, sizeof expected) == sizeof expected && memcmp(out, expected, sizeof expected) == 0, "saved");
+    check(chromatic_load(pool, words, too_many, sizeof too_many) == wrong_at(CHROMATIC_BAD_SAVED, 4), "a saved slot too many");
+    check(chromatic_load(pool, CHROMATIC_POOL_WORDS(1023), out, sizeof expected) == refused_with(CHROMATIC_NO_FIT), "into a smaller pool");
+    check(chromatic_report(pool, words, CHROMATIC_NODES) == 3, "the pool is as it was");
+    for (more = words + 1; more <= CHROMATIC_POOL_WORDS(CHROMATIC_MOST_SLOTS + 1); more++) {
+        check(chromatic_prepare(pool, more) == CHROMATIC_WRONG_LENGTH, "prepare of too many words");
+        check(chromatic_audit(pool, more) == CHROMATIC_WRONG_LENGTH, "audit of too many words");
+        check(chromatic_report(pool, more, CHROMATIC_NODES) == 0, "report of too many words");
+        check(chromatic_batch(pool, more, insert, sizeof insert, answers, 0) == refused_with(CHROMATIC_WRONG_LENGTH), "batch on too many words");
+        check(chromatic_save(pool, more, out, 0) == refused_with(CHROMATIC_WRONG_LENGTH), "save of too many words");
+        check(chromatic_load(pool, more, too_many, sizeof too_many) == refused_with(CHROMATIC_WRONG_LENGTH), "load into too many words");
+        check(chromatic_may_send(pool, more, 1, 0, 1) == refused_with(CHROMATIC_WRONG_LENGTH), "may send on too many words");
+        check(chromatic_clear_notice(pool, more, 1) == refused_with(CHROMATIC_WRONG_LENGTH), "clear on too many words");
+    }
+    check(chromatic_load(pool, words, out, sizeof expected) == 3, "load");
+    check(chromatic_audit(pool, words) == CHROMATIC_GOOD, "audit of what is loaded");
+}
+
 /* Each cause, in a batch and in saved bytes. */
 static void places(void) {
     static const struct {
@@ -138,7 +171,7 @@ static void over_a_restart(const uint32_t *pool, size_t words) {
     uint32_t other[CHROMATIC_POOL_WORDS(7)], smaller[CHROMATIC_POOL_WORDS(3)] = {0};
     const size_t count = sizeof expected;
 
-    check(CHROMATIC_SAVED_BYTES(0) == 4 && CHROMATIC_SAVED_BYTES(CHROMATIC_MOST_SLOTS) == 7165, "the most bytes of a saved set");
+    check(CHROMATIC_SAVED_BYTES(0) == 4 && CHROMATIC_SAVED_BYTES(CHROMATIC_MOST_SLOTS) == 114685, "the most bytes of a saved set");
     memset(out, 9, sizeof out);
     memset(again, 9, sizeof again);
     memset(other, 9, sizeof other);
@@ -319,6 +352,7 @@ int main(void) {
 
     numbers();
     limits();
+    largest();
     places();
     memset(pool, 9, sizeof pool);
     check(chromatic_prepare(pool, words - 1) == CHROMATIC_WRONG_LENGTH, "prepare of a wrong length");
@@ -338,7 +372,7 @@ int main(void) {
     check(CHROMATIC_CODE(refused) == CHROMATIC_BAD_COMMAND && CHROMATIC_NUMBER(refused) == 13, "bad command");
     refused = chromatic_batch(pool, words, batch, sizeof batch, answers, room - 1);
     check(refused == refused_with(CHROMATIC_FEW_ANSWERS), "few answers");
-    check(chromatic_interface_7() == CHROMATIC_INTERFACE, "the interface's number");
+    check(chromatic_interface_8() == CHROMATIC_INTERFACE, "the interface's number");
     check(chromatic_batch(pool, words, two_hundred, sizeof two_hundred, answers, room) == 0 && answers[0] == CHROMATIC_KEY_ABSENT, "200 in two bytes");
 
     check(chromatic_batch(pool, words, NOTHING, 0, NOTHING, 0) == 0, "an empty batch at NULL");

@@ -147,6 +147,53 @@ static void steps(size_t page) {
     check(chromatic_batch(pool, words, raise, sizeof raise, answer, CHROMATIC_ANSWER_WORDS) == 0 && answer[0] == CHROMATIC_TOO_TALL, "refused with 11");
 }
 
+/* The same of the largest pool: what is refused whole, of its own length and of those next to it, a slot more among them, and what a call finds
+ * nothing to change in. All of its pages may only be read, and those of the answers and the output too. */
+static void largest(uint32_t *answers, uint8_t *out, size_t page) {
+    const size_t words = CHROMATIC_POOL_WORDS(CHROMATIC_MOST_SLOTS), bytes = (CHROMATIC_POOL_WORDS(CHROMATIC_MOST_SLOTS + 1) * sizeof(uint32_t) + page - 1) / page * page;
+    const size_t lengths[] = {words - 3, words - 2, words - 1, words + 1, words + 2, words + 3, CHROMATIC_POOL_WORDS(CHROMATIC_MOST_SLOTS + 1)};
+    const uint8_t asking[] = {CHROMATIC_SEARCH, 10, CHROMATIC_INSERT, 10, CHROMATIC_STEP, 0x80, 0x80, 1, 1, CHROMATIC_SETTLE, 9};
+    const uint8_t filling[] = {CHROMATIC_INSERT, 10, CHROMATIC_INSERT, 20};
+    const uint8_t too_many[] = {0x80, 0x80, 1, 0}, other_slots[] = {0xFE, 0x7F, 0};
+    const size_t room = 4 * CHROMATIC_ANSWER_WORDS;
+    uint32_t *pool = mmap(NULL, bytes, PROT_READ | PROT_WRITE, MAP_PRIVATE | MAP_ANONYMOUS, -1, 0);
+
+    if (pool == MAP_FAILED) {
+        check(0, "no pages");
+        return;
+    }
+    check(chromatic_prepare(pool, words) == CHROMATIC_GOOD, "prepare the most slots");
+    check(chromatic_batch(pool, words, filling, sizeof filling, answers, room) == 0, "two keys in the most slots");
+    check(mprotect(pool, bytes, PROT_READ) == 0, "the largest pool may only be read");
+    check(chromatic_batch(pool, words, asking, sizeof asking, answers, room) == 0, "commands that change nothing in the largest pool");
+    check(answers[4] == CHROMATIC_NO_INNER_NODE, "a step at slot 16,384");
+    check(mprotect(answers, page, PROT_READ) == 0 && mprotect(out, page, PROT_READ) == 0, "answers and output may only be read");
+    for (size_t i = 0; i < sizeof lengths / sizeof lengths[0]; i++) {
+        const size_t n = lengths[i];
+        check(chromatic_prepare(pool, n) == CHROMATIC_WRONG_LENGTH, "the largest pool, prepare refused with 1");
+        check(CHROMATIC_CODE(chromatic_batch(pool, n, filling, sizeof filling, answers, room)) == CHROMATIC_WRONG_LENGTH, "the largest pool, refused with 1");
+        check(CHROMATIC_CODE(chromatic_save(pool, n, out, page)) == CHROMATIC_WRONG_LENGTH, "the largest pool, save refused with 1");
+        check(CHROMATIC_CODE(chromatic_load(pool, n, other_slots, sizeof other_slots)) == CHROMATIC_WRONG_LENGTH, "the largest pool, load refused with 1");
+        check(CHROMATIC_CODE(chromatic_may_send(pool, n, 1, 0, 1)) == CHROMATIC_WRONG_LENGTH, "the largest pool, may send refused with 1");
+        check(CHROMATIC_CODE(chromatic_clear_notice(pool, n, 1)) == CHROMATIC_WRONG_LENGTH, "the largest pool, clear refused with 1");
+    }
+    check(chromatic_batch(pool, words, asking, sizeof asking - 1, answers, room) == wrong_at(CHROMATIC_BAD_COMMAND, sizeof asking - 1), "the largest pool, refused with 3");
+    check(CHROMATIC_CODE(chromatic_batch(pool, words, filling, sizeof filling, answers, 3)) == CHROMATIC_FEW_ANSWERS, "the largest pool, refused with 4");
+    check(CHROMATIC_CODE(chromatic_save(pool, words, out, 2)) == CHROMATIC_NO_FIT, "the largest pool, save refused with 14");
+    check(chromatic_load(pool, words, too_many, sizeof too_many) == wrong_at(CHROMATIC_BAD_SAVED, sizeof too_many), "the largest pool, load refused with 13");
+    check(CHROMATIC_CODE(chromatic_load(pool, words, other_slots, sizeof other_slots)) == CHROMATIC_NO_FIT, "the largest pool, load refused with 14");
+    check(CHROMATIC_CODE(chromatic_may_send(pool, words, 0, 0, 1)) == CHROMATIC_OUT_OF_RANGE, "the largest pool, may send refused with 15");
+    check(chromatic_clear_notice(pool, words, 1) == 0, "the largest pool, a notice without a mark is cleared");
+    check(mprotect(pool, bytes, PROT_READ | PROT_WRITE) == 0, "the largest pool may be written");
+    pool[words - 1] += 1; /* the last slot's weight */
+    check(mprotect(pool, bytes, PROT_READ) == 0, "the largest pool may only be read");
+    check(CHROMATIC_CODE(chromatic_batch(pool, words, filling, sizeof filling, answers, room)) == CHROMATIC_RULES_BROKEN, "the largest pool, refused with 2");
+    check(CHROMATIC_CODE(chromatic_save(pool, words, out, page)) == CHROMATIC_RULES_BROKEN, "the largest pool, save refused with 2");
+    check(CHROMATIC_CODE(chromatic_may_send(pool, words, 1, 0, 1)) == CHROMATIC_RULES_BROKEN, "the largest pool, may send refused with 2");
+    check(CHROMATIC_CODE(chromatic_clear_notice(pool, words, 1)) == CHROMATIC_RULES_BROKEN, "the largest pool, clear refused with 2");
+    check(mprotect(answers, page, PROT_READ | PROT_WRITE) == 0 && mprotect(out, page, PROT_READ | PROT_WRITE) == 0, "answers and output may be written");
+}
+
 int main(void) {
     const size_t page = (size_t)sysconf(_SC_PAGESIZE), words = CHROMATIC_POOL_WORDS(7);
     uint32_t *pool = mmap(NULL, page, PROT_READ | PROT_WRITE, MAP_PRIVATE | MAP_ANONYMOUS, -1, 0);
@@ -167,6 +214,7 @@ int main(void) {
         return 1;
     }
     steps(page);
+    largest(answers, out, page);
     sending(pool, words, page);
     check(chromatic_prepare(pool, words) == CHROMATIC_GOOD, "prepare");
     check(chromatic_batch(pool, words, filling, sizeof filling, answers, room) == 0, "the pool is filled");

@@ -1,7 +1,7 @@
 -- Each export's contract decides its result and every lent word and byte. Assumes nothing.
 use Rattle.tree.proofs.Deciding.{DecidesResult, DecidesWords, equal}
-use Rattle.chromatic.proofs.chromatic_interface_7.Kinds as interface-kinds
-use Rattle.chromatic.proofs.chromatic_interface_7.Reads as interface-reads
+use Rattle.chromatic.proofs.chromatic_interface_8.Kinds as interface-kinds
+use Rattle.chromatic.proofs.chromatic_interface_8.Reads as interface-reads
 use Rattle.chromatic.proofs.chromatic_prepare.Kinds as prepare-kinds
 use Rattle.chromatic.proofs.chromatic_prepare.Reads as prepare-reads
 use Rattle.chromatic.proofs.chromatic_audit.Kinds as audit-kinds

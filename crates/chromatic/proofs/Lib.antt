@@ -7,3 +7,4 @@ pub mod SixWords
 pub mod Spans
 pub mod Sends
 pub mod Decides
+pub mod Sizes

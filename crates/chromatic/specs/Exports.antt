@@ -24,6 +24,6 @@ returned k = inOneWord (k .code) (k .number)
 unfoldable pub returnedAnswer : Answer → ℕ
 returnedAnswer a = inOneWord (codeOf a) (numberOf a)
 
--- RULES 10.4: the number that the name of `chromatic_interface_7` carries (docs/INTERFACE.md).
+-- RULES 10.4: the number that the name of `chromatic_interface_8` carries (docs/INTERFACE.md).
 abbrev pub interfaceNumber : ℕ
-interfaceNumber = 7
+interfaceNumber = 8

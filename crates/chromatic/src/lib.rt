@@ -24,12 +24,12 @@ fn one_word(code: u32, number: u32) -> u64
     code as u64 * CODE_UNIT + number as u64
 }
 
-const INTERFACE: u32 = 7;
+const INTERFACE: u32 = 8;
 
 // A host that was made for another interface calls another name, and does not link. The number goes up, here and in the name, with each
 // change of a signature, of what a number means, of the pool's words or of what is accepted.
 #[no_mangle]
-pub extern "C" fn chromatic_interface_7() -> u32
+pub extern "C" fn chromatic_interface_8() -> u32
     ensures number { λ r. ⌜ r ≡ interfaceNumber ⌝ }
 {
     INTERFACE

@@ -1,5 +1,5 @@
 -- Demand 3's last sentence through batch. "Until the tree is red-black some step is accepted": a pool that passes the audit and is not
--- red-black has batch bytes whose step command answers 0 (`step-answers`). "Once it is, none": from a red-black one, through any calls
+-- red-black has batch bytes whose step command answers 0 (`step-answers`); where L is 255 the bytes of one of kind 6 (`lighten-answers`). "Once it is, none": from a red-black one, through any calls
 -- with no update among them, no step command of a further call answers 0, if no insert or delete before it in that call was accepted and no
 -- delete of a span there took a key (`no-step-answers`).
 -- Why: the first is crate set's `some-accepted` written as bytes; for the second, the report's seventh number of a red-black pool is 0,
@@ -11,12 +11,14 @@ use lib.ListN.{length, getD}
 use native.Mathlib.Decide.{decLt}
 use native.Mathlib.Omega.{arith}
 use Prim.Native.Nat.{ℕ, _+_, _*_, _≤_, _<_}
+use Rattle.tree.specs.declared.Kind.{Kind}
+use Rattle.tree.specs.declared.Kind.the-variants.{Lighten}
 use Rattle.tree.specs.declared.Answer.the-variants.{Done}
-use Rattle.tree.specs.Codes.{kindNumber, codeOf, numberOf}
+use Rattle.tree.specs.Codes.{mostLevel, kindNumber, codeOf, numberOf}
 use Rattle.tree.specs.State.{State, Sound, Outcome, step}
 use Rattle.tree.proofs.KindNumbers.{refusal-some, named-known, named-within}
 use Rattle.tree.proofs.StepState.{StepCase, refused, taken, stepping}
-use Rattle.tree.proofs.Demand3.{boundOf, BalancedState, balanced-bound, SomeAccepted, some-accepted-is, some-accepted, accepted-falls}
+use Rattle.tree.proofs.Demand3.{boundOf, BalancedState, balanced-bound, SomeAccepted, some-accepted-is, some-accepted, lighten-accepted, accepted-falls}
 use Rattle.format.specs.Audit.{stateOf}
 use Rattle.format.proofs.Rules.{show-rules}
 use Rattle.encoding.specs.declared.Operation.the-variants.{Step}
@@ -27,12 +29,13 @@ use Rattle.encoding.specs.Causes.{Cause, slot-above, FirstCause, no-cause, firs
 use Rattle.encoding.proofs.Causes.{code-exactly, from-lowest}
 use Rattle.encoding.proofs.Endings.{ran-ends}
 use Rattle.encoding.proofs.Performs.{run-sound, small-append}
-use Rattle.commands.specs.Written.{commandBytes, batchBytes, Fits, AllFit}
-use Rattle.commands.proofs.Written.{written-read, command-bytes, one-command}
+use Rattle.commands.specs.Written.{commandBytes, Fits, AllFit}
+use Rattle.commands.proofs.Written.{command-bytes, one-command}
 use Rattle.set.specs.Set.{Passing}
 use Rattle.set.specs.Balance.{boundNumber, Balanced}
 use Rattle.set.proofs.Passing.{passing-state}
 use Rattle.set.proofs.Balancing.{bound-shown, balanced-shown}
+use Rattle.set.proofs.Levels.{level-true}
 use Rattle.demands.specs.Calls.{Entry, entries, Calls, NoUpdates}
 use Rattle.demands.proofs.Called.{call-ran, calls-passing}
 use Rattle.demands.proofs.Ends.{command-words}
@@ -59,33 +62,40 @@ accepted-small s n m S sound d = go (code-exactly Step s n S sound 0 .0 (ap code
     go (no-cause f) e = elim (decLt (S .slots) s) [ yes l ↦ absurd (f 8 (slot-above l)) | no l ↦ omega arith ]
     go (first-cause c f) e = absurd (omega (arith, from-lowest c))
 
-pub step-answers : {p : List ℕ} → Passing p → (Balanced p → ⊥) → (s n : ℕ) × StepAnswers p s n
+-- An accepted step of the State that the words show, through batch.
+accepted-answers : {p : List ℕ} → Passing p → (s : ℕ) (k : Kind) → (step s (kindNumber k) (stateOf p)) .answer ≡ Done (kindNumber k) → StepAnswers p s (kindNumber k)
 unfolding called filled answersOf answerWords perform operation AllFit
+accepted-answers {p} g s k d =
+    let n = kindNumber k in
+    let sound = passing-state g .0 in
+    let low = accepted-small s n n (stateOf p) sound d in
+    let kind = named-within n k (named-known k) in
+    let fits : Fits (command Step s n) =
+    record { first-small = omega (arith, sound .few); second-small = omega arith; second-none = λ z. absurd (omega arith) } in
+    let rules = show-rules (passing-state g .0) (passing-state g .1) in
+    let read = one-command (command Step s n) fits in
+    let ran : (out : List ℕ) → 2 ≤ length out → batch p (stepBytes s n) out ≡ called (command Step s n ∷ []) p out =
+    λ out h. ran-ends p (stepBytes s n) out (rules .0) read (omega arith) (rules .1) in
+    record {
+      are-bytes = command-bytes (command Step s n) fits;
+      is-read = read;
+      not-refused = λ out h. ap (λ (r : Call). r .code) (ran out h);
+      code-word = λ out h. ap (λ (r : Call). getD (r .answers) 0 0) (ran out h) ∙ ap codeOf d;
+      number-word = λ out h. ap (λ (r : Call). getD (r .answers) 1 0) (ran out h) ∙ ap numberOf d;
+    }
+
+pub step-answers : {p : List ℕ} → Passing p → (Balanced p → ⊥) → (s n : ℕ) × StepAnswers p s n
 step-answers {p} g not-yet = go (some-accepted (stateOf p) (passing-state g .0))
   where
     go : BalancedState (stateOf p) ⊎ SomeAccepted (stateOf p) → (s n : ℕ) × StepAnswers p s n
     go (inl d) = absurd (not-yet (balanced-shown (passing-state g .0) (passing-state g .1) .1 d))
-    go (inr (some-accepted-is s k d)) =
-        let n = kindNumber k in
-        let sound = passing-state g .0 in
-        let low = accepted-small s n n (stateOf p) sound d in
-        let kind = named-within n k (named-known k) in
-        let fits : Fits (command Step s n) =
-        record { first-small = omega (arith, sound .few); second-small = omega arith; second-none = λ z. absurd (omega arith) } in
-        let rules = show-rules (passing-state g .0) (passing-state g .1) in
-        let read = one-command (command Step s n) fits in
-        let ran : (out : List ℕ) → 2 ≤ length out → batch p (stepBytes s n) out ≡ called (command Step s n ∷ []) p out =
-        λ out h. ran-ends p (stepBytes s n) out (rules .0) read (omega arith) (rules .1) in (
-          s,
-          n,
-          record {
-            are-bytes = command-bytes (command Step s n) fits;
-            is-read = read;
-            not-refused = λ out h. ap (λ (r : Call). r .code) (ran out h);
-            code-word = λ out h. ap (λ (r : Call). getD (r .answers) 0 0) (ran out h) ∙ ap codeOf d;
-            number-word = λ out h. ap (λ (r : Call). getD (r .answers) 1 0) (ran out h) ∙ ap numberOf d;
-          },
-        )
+    go (inr (some-accepted-is s k d)) = (s, kindNumber k, accepted-answers g s k d)
+
+-- 02 (viii): "255 remains enough for L." Where the fourth header word is 255, so that kind 1 at the root is refused with 11, kind 6 is accepted at some slot.
+pub lighten-answers : {p : List ℕ} → Passing p → getD p 3 0 ≡ mostLevel → (s : ℕ) × StepAnswers p s 6
+lighten-answers {p} g high =
+    let h = lighten-accepted (stateOf p) (passing-state g .0) (sym (level-true g) ∙ high) in
+    (h .0, accepted-answers g (h .0) Lighten (h .1))
 
 -- An accepted step of a State needs a bound above 0.
 none-at-0 : (s n : ℕ) (S : State) → Sound S → boundOf S ≡ 0 → codeOf ((step s n S) .answer) ≢ 0

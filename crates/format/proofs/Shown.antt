@@ -218,7 +218,7 @@ slots-in p n e = omega arith
 
 pub length-is-good : (p : List ℕ) (n : ℕ) → length p ≡ 4 + 4 * n → 1 ≤ n → n ≤ mostSlots → lengthGood p ≡ true
 unfolding lengthGood
-length-is-good p n e l h = rw (slots-in p n e, eq-eqb (length p) (4 + 4 * n) e, le-leb 1 n l, le-leb n mostSlots h)
+length-is-good p n e l h = rw (slots-in p n e, eq-eqb (length p) (4 + 4 * n) e, le-leb 1 n l) (le-leb n _ (omega arith))
 
 pub shows-length-good : {h : Header} {p : List ℕ} {S : State} → Sound S → Shows h p S → (lengthGood p ≡ true) × (slotsIn p ≡ S .slots)
 shows-length-good {p = p} {S} sound shows =

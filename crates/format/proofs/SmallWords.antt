@@ -7,12 +7,11 @@ use native.Mathlib.Omega.{arith}
 use native.Mathlib.Decide.{decLe, decLt}
 use lib.ListN.{length, getD, List·getD-eq-default}
 use Prim.Native.Nat.{ℕ, zero, suc, _+_, _*_, _/_, _%_, _^_, _≤_, _<_}
-use Rattle.tree.specs.Codes.{mostLevel}
 use Rattle.tree.specs.Tree.{Tree, slotOf, count, countIn, Ordered}
-use Rattle.tree.specs.State.{State, Top, empty, full, levelTop, countTop, keyEnd, GoodTop, Sound}
+use Rattle.tree.specs.State.{State, Top, empty, full, countTop, keyEnd, GoodTop, Sound}
 use Rattle.tree.proofs.Counts.{is-same, in-node, in-chain}
 use Rattle.tree.proofs.Order.{ordered-bounds}
-use Rattle.tree.proofs.SoundStates.{sound-total}
+use Rattle.tree.proofs.SoundStates.{sound-total, sound-level}
 use Rattle.format.specs.declared.Slot.{Slot}
 use Rattle.format.specs.Words.{headerOf, slotAt, rootOf}
 use Rattle.format.specs.Shows.{Holds, holds-leaf, holds-node, HoldsTop, Chain, chain-end, chain-more, PoolShows}
@@ -80,21 +79,13 @@ module _ {p : List ℕ} {S : State} (sound : Sound S) (shows : PoolShows p S) wh
       go empty h = omega arith
       go (full t) h = root-low short h
 
-  level-small : levelTop (S .top) ≤ mostLevel
-  unfolding levelTop GoodTop
-  level-small = go (S .top) (sound .good)
-    where
-      go : (t : Top) → GoodTop t → levelTop t ≤ mostLevel
-      go empty g = omega arith
-      go (full t) g = g .low
-
   -- the header's words, and those of a slot
   header-word : (i : ℕ) → i < 4 → getD p i 0 < 2 ^ 32
   unfolding headerOf
   header-word zero h = omega (arith, shows-root shows, root-small)
   header-word (suc zero) h = omega (arith, shows-free shows, head-low short (shows .chain-held))
   header-word (suc (suc zero)) h = omega (arith, shows-nodes shows, sound-total sound, sound .few)
-  header-word (suc (suc (suc zero))) h = omega (arith, shows-level shows, level-small)
+  header-word (suc (suc (suc zero))) h = omega (arith, shows-level shows, sound-level sound)
   header-word (suc (suc (suc (suc i)))) h = absurd (omega arith)
 
   slot-small : (s : ℕ) → 1 ≤ s → s ≤ S .slots → Small (slotAt p s)

@@ -69,14 +69,14 @@ partWord s x = wordOf s + placeOf x
 unfoldable pub putPart : List ℕ → ℕ → Part → Slot → List ℕ
 putPart p s x c = set p (partWord s x) (partOf x c)
 
--- C; the last slot, which is C in a pool of a good length and 1,023 in a longer one
+-- C; the last slot, which is C in a pool of a good length and the last that a pool may have in a longer one
 unfoldable pub slotsIn : List ℕ → ℕ
 slotsIn p = length p / 4 - 1
 
 abbrev pub lastSlot : List ℕ → ℕ
 lastSlot p = min (slotsIn p) mostSlots
 
--- code 1 (RULES 1.1): "pool length is not 4 + 4C", C "from 1 to 1,023"
+-- code 1 (RULES 1.1): "pool length is not 4 + 4C"; 02 (viii): "Code 1 follows the new limit."
 unfoldable pub lengthGood : List ℕ → Bool
 lengthGood p = eqb (length p) (4 + 4 * slotsIn p) && leb 1 (slotsIn p) && leb (slotsIn p) mostSlots
 

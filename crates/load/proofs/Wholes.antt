@@ -111,15 +111,15 @@ module _ (bytes : List ℕ) (at n : ℕ) where
 
 -- What is_count answers.
 module _ (c n : ℕ) where
-  pub count-none : c < 1 → false ≡ isCount c n
+  pub count-none : c < 1 → false ≡ isCount mostSlots c n
   unfolding isCount
   count-none h = rw (lt-leb 1 c h)
 
-  pub count-many : mostSlots < c → false ≡ isCount c n
+  pub count-many : mostSlots < c → false ≡ isCount mostSlots c n
   unfolding isCount
   count-many k = rw (le-leb 1 c (omega arith), lt-leb c mostSlots k)
 
-  pub count-is : 1 ≤ c → c ≤ mostSlots → leb n c ≡ isCount c n
+  pub count-is : 1 ≤ c → c ≤ mostSlots → leb n c ≡ isCount mostSlots c n
   unfolding isCount
   count-is h k = rw (le-leb 1 c h, le-leb c mostSlots k)
 
@@ -149,7 +149,7 @@ module _ (bytes : List ℕ) (b : Bytes bytes) where
             found = record { there = rw (y .1) at (there .top-there); good = sound .good; nodes-are = y .0 };
           }
 
-      pub no-count : isCount c n ≡ false → loaded bytes ≡ none
+      pub no-count : isCount mostSlots c n ≡ false → loaded bytes ≡ none
       no-count e = none-there bytes b (λ S sound there.
           let H = has S sound there in
           false≢true (sym e ∙ rw (H .slots-are, H .nodes-are) at (sound-count sound)))
@@ -157,8 +157,8 @@ module _ (bytes : List ℕ) (b : Bytes bytes) where
       pub no-top : TopSays bytes at n NotGood → loaded bytes ≡ none
       no-top absent = none-there bytes b (λ S sound there. absent (S .top) (has S sound there .found))
 
-      pub all-found : isCount c n ≡ true → {l : ℕ} → TopSays bytes at n (Level l) → Loads bytes c n l at
+      pub all-found : isCount mostSlots c n ≡ true → {l : ℕ} → TopSays bytes at n (Level l) → Loads bytes c n l at
       all-found e t = record { count-from = i; top = t .0; slots-there = slots; count-there = count; found = t .1; level-is = t .2; counts = e }
 
-pub count-few : (c n : ℕ) → isCount c n ≡ true → n ≤ mostSlots
+pub count-few : (c n : ℕ) → isCount mostSlots c n ≡ true → n ≤ mostSlots
 count-few c n e = let k = count-parts c n e in omega (arith, k .few-slots, k .inside)

@@ -6,6 +6,7 @@ use mathlib.Core.List.{List}
 use mathlib.Core.Option.{none}
 use lib.ListN.{length}
 use Prim.Native.Nat.{ℕ, _+_, _≤_}
+use Rattle.tree.specs.Codes.{mostSlots}
 use Rattle.tree.specs.Tree.{Tree, size, depth, level, Ordered, Chromatic}
 use Rattle.tree.specs.State.{Top, nodes, levelTop, GoodTop}
 use Rattle.encoding.specs.declared.Number.the-variants.{Read}
@@ -64,7 +65,7 @@ pub record Loads (bytes : List ℕ) (c n l at : ℕ) : Type 0 where
   pub count-there : number bytes count-from ≡ Read n at
   pub found : FoundTop bytes at n top
   pub level-is : l ≡ levelTop top
-  pub counts : isCount c n ≡ true
+  pub counts : isCount mostSlots c n ≡ true
 
 abbrev pub WholeSays : List ℕ → Said → Type 0
 WholeSays bytes Nothing = loaded bytes ≡ none

@@ -20,6 +20,7 @@ ghost use mathlib.Core.Path.{_≡_};
 ghost use lib.Dec.{eqb};
 ghost use lib.ListN.{length};
 ghost use Prim.Native.Nat.{_+_, _-_, _^_, _≤_, _<_, min};
+ghost use Rattle.tree.specs.Codes.{mostSlots};
 ghost use Rattle.tree.specs.State.{upwards};
 ghost use Rattle.format.specs.Words.{headOf};
 ghost use Rattle.saved.specs.Loaded.{numbersAt, isCount, placeIn, badPlace};
@@ -142,9 +143,9 @@ fn judge_top(bytes: &[u8], at: usize, n: u32) -> JudgedTop
     JudgedTop::Level(sum - ROOT_WEIGHT)
 }
 
-// 01: "C from 1 to 1,023"; N is at most C.
+// C is from 1 to MOST_SLOTS, N at most C.
 fn is_count(c: u32, n: u32) -> bool
-    ensures { λ r. ⌜ r ≡ isCount c n ⌝ }
+    ensures { λ r. ⌜ r ≡ isCount mostSlots c n ⌝ }
 {
     if c < 1 {
         return false;

@@ -9,11 +9,12 @@ use mathlib.Core.List.{List}
 use Prim.Native.Nat.{ℕ, zero, suc, pred, _+_, _*_, _-_, _≤_}
 use native.Mathlib.Nat.{mul-le-mul, mul-le-mul-left}
 use native.Mathlib.Omega.{arith}
+use Rattle.tree.specs.Codes.{mostSlots}
 use Rattle.tree.specs.Tree.{Tree, leaf, node, size, red, one}
 use Rattle.tree.specs.Distances.{outside, ifRed, forRed, conflicts, redDistance, overDistance, excessWeight}
 use Rattle.tree.proofs.Tests.{is-red}
 use Rattle.tree.proofs.Below.{ifRed-le, forRed-times}
-use Rattle.tree.proofs.Limits.{widest, slots-within, conflicts-few, red-distance-le, excess-le, over-distance-le}
+use Rattle.tree.proofs.Limits.{conflicts-few, red-distance-le, excess-le, over-distance-le}
 use Rattle.format.specs.declared.Slot.{Slot}
 use Rattle.format.specs.Words.{slotAt}
 use Rattle.pool.specs.Walks.{mostSum}
@@ -92,7 +93,7 @@ unfolding oversIn outside
 counts-over e m f g add S = add ∙ rw (g, f S, m, standing-weight S e) (counted-eq refl (omega arith) (omega arith))
 
 -- All these numbers are small: at most two conflicts at a node, and no edge weighs more than L and the root's edge.
-near : (m n : ℕ) → m ≤ widest → n ≤ widest → m * n ≤ widest * widest
+near : (m n : ℕ) → m ≤ mostSlots → n ≤ mostSlots → m * n ≤ mostSlots * mostSlots
 near m n h i = mul-le-mul h i
 
 module _ {p : List ℕ} {s n left : ℕ} (S : Standing p s n left) where
@@ -100,12 +101,12 @@ module _ {p : List ℕ} {s n left : ℕ} (S : Standing p s n left) where
   unfolding redsIn outside
   reds-few w =
       let t = S .tree in
-      let least : conflicts t + forRed 1 t ≤ widest = omega (arith, conflicts-few t, S .inside, S .few, slots-within) in
+      let least : conflicts t + forRed 1 t ≤ mostSlots = omega (arith, conflicts-few t, S .inside, S .few) in
       let far = forRed-times (n - size t) t in
       let each = mul-le-mul-left {m = n - size t} {n = n} (forRed 1 t) (omega arith) in
-      let all = near (conflicts t + forRed 1 t) n least (omega (arith, S .few, slots-within)) in
+      let all = near (conflicts t + forRed 1 t) n least (omega (arith, S .few)) in
       record {
-        nodes-small = omega (arith, S .inside, S .few, slots-within);
+        nodes-small = omega (arith, S .inside, S .few);
         number-small = omega (arith, ifRed-le w (forRed 1 t));
         distance-small = omega (arith, ifRed-le w (forRed (n - size t) t), red-distance-le n t);
       }
@@ -116,10 +117,10 @@ module _ {p : List ℕ} {s n left : ℕ} (S : Standing p s n left) where
       let t = S .tree in
       let below = over-distance-le mostSum n (S .weight) t (S .fine .chromatic) (omega (arith, S .fine .low)) in
       let edge = mul-le-mul {n₁ = pred w} {m₁ = n - size t} {n₂ = mostSum} {m₂ = n} (omega arith) (omega arith) in
-      let all = near n (size t) (omega (arith, S .few, slots-within)) (omega (arith, S .inside, S .few, slots-within)) in
+      let all = near n (size t) (omega (arith, S .few)) (omega (arith, S .inside, S .few)) in
       record {
-        nodes-small = omega (arith, S .inside, S .few, slots-within);
-        number-small = omega (arith, excess-le mostSum (S .weight) t (S .fine .chromatic) (omega (arith, S .fine .low)), mul-le-mul-left {m = size t} {n = widest} mostSum (omega (arith, S .inside, S .few, slots-within)));
+        nodes-small = omega (arith, S .inside, S .few);
+        number-small = omega (arith, excess-le mostSum (S .weight) t (S .fine .chromatic) (omega (arith, S .fine .low)), mul-le-mul-left {m = size t} {n = mostSlots} mostSum (omega (arith, S .inside, S .few)));
         distance-small = omega arith;
       }
 
@@ -133,7 +134,7 @@ module _ {p : List ℕ} {s n left : ℕ} (S : Standing p s n left) where
   -- and what a node adds to them
   fits : {u : Counted} {number times far : ℕ} → Small u → number ≤ mostSum → times ≤ mostSum → far ≤ n → Fits u number (times * far)
   fits {times = times} {far} c a b g =
-      let h = mul-le-mul {n₁ = times} {m₁ = far} {n₂ = mostSum} {m₂ = widest} b (omega (arith, S .few, slots-within)) in
+      let h = mul-le-mul {n₁ = times} {m₁ = far} {n₂ = mostSum} {m₂ = mostSlots} b (omega (arith, S .few)) in
       record { number-fits = omega (arith, c .number-small); distance-fits = omega (arith, c .distance-small) }
 
   module _ {u : Counted} (f : Counts (λ w t. redsIn n 1 t) p s n left u) where

@@ -11,7 +11,7 @@ use Rattle.tree.specs.declared.Figures.{Figures}
 use Rattle.tree.specs.Tree.{size}
 use Rattle.tree.specs.Distances.{ifRed, conflicts, redDistance, overDistance, excessWeight, bound, BoundFits}
 use Rattle.tree.specs.State.{report, figures}
-use Rattle.tree.proofs.Limits.{slots-within, Fit, figures-fit}
+use Rattle.tree.proofs.Limits.{Fit, figures-fit}
 use Rattle.format.specs.declared.Header.{Header}
 use Rattle.format.specs.Audit.{stateOf}
 use Rattle.pool.specs.Standing.{allowance}
@@ -26,7 +26,7 @@ module _ {p : List ℕ} {h : Header} (R : Rooted p h) where
   root-fit =
       let S = R .standing in
       let w = R .weight-is in
-      figures-fit (S .tree) (rw w at (S .fine .chromatic)) (omega (arith, S .fine .low)) (omega (arith, S .fine .few, slots-within))
+      figures-fit (S .tree) (rw w at (S .fine .chromatic)) (omega (arith, S .fine .low)) (S .fine .few)
 
   module _ {reds heavy : Counted} (A : Counts (λ w t. redsIn (h .nodes) 1 t) p (h .root) (h .nodes) (allowance p) reds) (B : Counts (oversIn (h .nodes)) p (h .root) (h .nodes) (allowance p) heavy) where
     reds-are : reds ≡ counted (size (R .standing .tree)) (conflicts (R .standing .tree)) (redDistance (size (R .standing .tree)) (R .standing .tree))

@@ -5,10 +5,11 @@ use mathlib.Core.Logic.{_≢_}
 use mathlib.Core.List.{List, [], _∷_, _++_}
 use lib.ListN.{length, length-append}
 use lib.Seq.{sets, sets-eq}
-use Prim.Native.Nat.{ℕ, _+_, _^_, _≤_, _<_}
+use Prim.Native.Nat.{ℕ, _+_, _*_, _^_, _≤_, _<_}
 use native.Mathlib.Omega.{arith}
 use Rattle.tree.specs.declared.Refusal.the-variants.{NoFit}
 use Rattle.tree.specs.declared.Answer.the-variants.{Done, Refused}
+use Rattle.tree.specs.Codes.{mostSlots}
 use Rattle.tree.specs.Tree.{Tree}
 use Rattle.tree.specs.State.{Top, full, nodes}
 use Rattle.tree.proofs.SoundStates.{sound-total}
@@ -84,7 +85,7 @@ module _ {p : List ℕ} {h : Header} (K : Kept p h) where
         → end ≡ sets out 0 (savedBytes (stateOf p))
     saved-wrote a b = rw saved-is (put-then a b .wrote)
 
-  pub saved-small : length (savedBytes (stateOf p)) ≤ 10000
+  pub saved-small : length (savedBytes (stateOf p)) ≤ 7 * mostSlots + 4
   saved-small = omega (arith, saved-length (K .sound), sound-total (K .sound), K .sound .few)
 
 -- What the call answers and leaves.

@@ -10,3 +10,4 @@ pub mod Places
 pub mod Figures
 pub mod Worked
 pub mod Restarts
+pub mod Older

@@ -13,7 +13,7 @@ use native.Mathlib.Omega.{arith}
 use Rattle.encoding.specs.declared.Number.the-variants.{Read, Wrong}
 use Rattle.encoding.specs.Numbers.{Bytes, number}
 use Rattle.numbers.proofs.Faults.{bad-near, number-bad}
-use Rattle.saved.specs.Loaded.{Numbers, numbers, misread, before, numbersAt, nodeNumbers, countNumbers, numbersIn, loadedNumbers, loaded, placeIn, badPlace}
+use Rattle.saved.specs.Loaded.{Numbers, numbers, misread, before, numbersAt, nodeNumbers, countNumbers, numbersIn, loadedNumbers, loadedUpTo, loaded, placeIn, badPlace}
 use Rattle.saved.specs.Misread.{Reads, reads-none, reads-more, asked, Unwritten, MisreadAt, bad-number, no-whole}
 use Rattle.saved.specs.Calls.{lastWord, placeWord}
 use Rattle.saved.proofs.ReadLists.{at-more, at-wrong, reads-wrong}
@@ -22,7 +22,7 @@ use Rattle.saved.proofs.Saves.{in-reads, InSays, numbers-in, refused-ex
 module _ (bytes : List ℕ) where
   -- what is read, and the place
   place-misread : {j : ℕ} → numbersIn bytes ≡ misread j → (loaded bytes ≡ none) × (badPlace bytes ≡ j)
-  unfolding loaded loadedNumbers badPlace placeIn
+  unfolding loadedUpTo loadedNumbers badPlace placeIn
   place-misread e = (rw e, rw e)
 
   place-read : {vs : List ℕ} {next : ℕ} → numbersIn bytes ≡ numbers vs next → badPlace bytes ≡ length bytes

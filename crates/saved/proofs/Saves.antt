@@ -12,13 +12,14 @@ use lib.Seq.{drop-length}
 use Prim.Native.Nat.{ℕ, _+_, _*_, _<_}
 use native.Mathlib.Omega.{arith}
 use borrow.Author.Tests.{eqb-true, eq-eqb}
+use Rattle.tree.specs.Codes.{mostSlots}
 use Rattle.tree.specs.State.{State, Top, empty, full, nodes, GoodTop, Sound}
 use Rattle.tree.proofs.SoundStates.{sound-total}
 use Rattle.encoding.specs.declared.Number.{Number}
 use Rattle.encoding.specs.declared.Number.the-variants.{Read, Wrong}
 use Rattle.encoding.specs.Numbers.{Bytes, number}
 use Rattle.saved.specs.Saved.{topNumbers, savedNumbers, bytesOfAll, savedBytes, renumberedTop, withRest, renumberedState, AlikeTop}
-use Rattle.saved.specs.Loaded.{Numbers, numbers, misread, before, numbersAt, nodeNumbers, countNumbers, numbersIn, isCount, stateFrom, loadedNumbers, loaded}
+use Rattle.saved.specs.Loaded.{Numbers, numbers, misread, before, numbersAt, nodeNumbers, countNumbers, numbersIn, isCount, stateFrom, loadedNumbers, loadedUpTo, loaded}
 use Rattle.saved.specs.There.{SavedAt}
 use Rattle.saved.specs.Misread.{Reads, reads-none, reads-more, asked, Unwritten}
 use Rattle.saved.proofs.ReadLists.{reads-at, AtSays, at-says, reads-bytes, reads-there}
@@ -59,12 +60,12 @@ numbers-in bytes = first (number bytes 0) refl
     first (Wrong j) e = rw (e, numbersIn) ([], 0, reads-none, omega arith, e)
     first (Read c i) e = second c i e (number bytes i) refl
 
-loaded-as : (bytes vs : List ℕ) → numbersIn bytes ≡ numbers vs (length bytes) → loaded bytes ≡ stateFrom vs
-unfolding loaded loadedNumbers
+loaded-as : (bytes vs : List ℕ) → numbersIn bytes ≡ numbers vs (length bytes) → loaded bytes ≡ stateFrom mostSlots vs
+unfolding loadedUpTo loadedNumbers
 loaded-as bytes vs e = rw (e, eq-eqb (length bytes) (length bytes) refl, loadedNumbers)
 
 -- Bytes in which a good set stands, number by number, are taken.
-pub there-loaded : (bytes : List ℕ) (c : ℕ) (t : Top) → SavedAt bytes c t → isCount c (nodes t) ≡ true → GoodTop t → loaded bytes ≡ some (withRest c (renumberedTop t))
+pub there-loaded : (bytes : List ℕ) (c : ℕ) (t : Top) → SavedAt bytes c t → isCount mostSlots c (nodes t) ≡ true → GoodTop t → loaded bytes ≡ some (withRest c (renumberedTop t))
 there-loaded bytes c t there count good =
     loaded-as bytes (c ∷ (nodes t ∷ topNumbers t)) (in-reads (reads-more (there .slots-there) (reads-more (there .count-there) (top-reads (there .top-there)))) (top-count t))
     ∙ state-from c t count good
@@ -105,19 +106,19 @@ unfolding savedBytes
 state-loaded bytes vs e none h = tt
 state-loaded bytes vs e (some T) h = record { sound = h .sound; written = rw (h .written) e; numbered = h .numbered }
 
-numbers-loaded : (bytes : List ℕ) → Bytes bytes → (x : Numbers) → InSays bytes x → LoadedSays bytes (loadedNumbers (length bytes) x)
+numbers-loaded : (bytes : List ℕ) → Bytes bytes → (x : Numbers) → InSays bytes x → LoadedSays bytes (loadedNumbers mostSlots (length bytes) x)
 unfolding loadedNumbers
 numbers-loaded bytes b (misread j) h = tt
 numbers-loaded bytes b (numbers vs next) h = go (eqb next (length bytes)) refl
   where
-    go : (x : Bool) → eqb next (length bytes) ≡ x → LoadedSays bytes (loadedNumbers (length bytes) (numbers vs next))
+    go : (x : Bool) → eqb next (length bytes) ≡ x → LoadedSays bytes (loadedNumbers mostSlots (length bytes) (numbers vs next))
     go false e = rw (e, loadedNumbers) tt
     go true e =
         let all : bytesOfAll vs ≡ bytes = sym (rw (eqb-true next (length bytes) e, drop-length bytes, append-nil) at (reads-there bytes b (h .0))) in
-        rw (e, loadedNumbers) (state-loaded bytes vs all (stateFrom vs) (state-says vs))
+        rw (e, loadedNumbers) (state-loaded bytes vs all (stateFrom mostSlots vs) (state-says vs))
 
 loaded-says : (bytes : List ℕ) → Bytes bytes → LoadedSays bytes (loaded bytes)
-unfolding loaded
+unfolding loadedUpTo
 loaded-says bytes b = numbers-loaded bytes b (numbersIn bytes) (numbers-in bytes)
 
 pub loaded-stored : (bytes : List ℕ) {T : State} → Bytes bytes → loaded bytes ≡ some T → Stored bytes T

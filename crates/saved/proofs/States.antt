@@ -88,18 +88,18 @@ top-read (full t) g =
     rw append-nil at (tree-read ((size t + 1) / 2) 1 1 t [] (omega (arith, depth-half t))) in
     top-some (size t) (treeNumbers 1 t) (size-pos t) ∙ rw read (whole-good (size t) (renumbered 1 t) (alike-size a) (alike-good a g))
 
-pub state-from : (c : ℕ) (t : Top) → isCount c (nodes t) ≡ true → GoodTop t → stateFrom (c ∷ (nodes t ∷ topNumbers t)) ≡ some (withRest c (renumberedTop t))
+pub state-from : (c : ℕ) (t : Top) → isCount mostSlots c (nodes t) ≡ true → GoodTop t → stateFrom mostSlots (c ∷ (nodes t ∷ topNumbers t)) ≡ some (withRest c (renumberedTop t))
 unfolding stateFrom withTop
 state-from c t count good = rw (count, top-read t good, stateFrom)
 
 -- N is at most C in a sound State, and C is lawful.
-pub sound-count : {S : State} → Sound S → isCount (S .slots) (nodes (S .top)) ≡ true
+pub sound-count : {S : State} → Sound S → isCount mostSlots (S .slots) (nodes (S .top)) ≡ true
 unfolding isCount
 sound-count {S} sound =
     let few : nodes (S .top) ≤ S .slots = omega (arith, sound-total sound) in
     and-intro (le-leb _ _ (sound .some)) (and-intro (le-leb _ _ (sound .few)) (le-leb _ _ few))
 
-pub state-read : {S : State} → Sound S → stateFrom (savedNumbers S) ≡ some (renumberedState S)
+pub state-read : {S : State} → Sound S → stateFrom mostSlots (savedNumbers S) ≡ some (renumberedState S)
 unfolding savedNumbers renumberedState
 state-read {S} sound = state-from (S .slots) (S .top) (sound-count sound) (sound .good)
 
@@ -108,7 +108,7 @@ pub record Counts (c n : ℕ) : Type 0 where
   pub few-slots : c ≤ mostSlots
   pub inside : n ≤ c
 
-pub count-parts : (c n : ℕ) → isCount c n ≡ true → Counts c n
+pub count-parts : (c n : ℕ) → isCount mostSlots c n ≡ true → Counts c n
 unfolding isCount
 count-parts c n e =
     let a = two-true (leb 1 c) (leb c mostSlots && leb n c) e in
@@ -167,7 +167,7 @@ abbrev pub StateSays : List ℕ → Option State → Type 0
 StateSays vs none = Unit {0}
 StateSays vs (some T) = Comes vs T
 
-with-says : (c n : ℕ) (vs : List ℕ) → isCount c n ≡ true → (x : Option Top) → TopSays n vs x → StateSays (c ∷ (n ∷ vs)) (withTop c x)
+with-says : (c n : ℕ) (vs : List ℕ) → isCount mostSlots c n ≡ true → (x : Option Top) → TopSays n vs x → StateSays (c ∷ (n ∷ vs)) (withTop c x)
 unfolding withTop savedNumbers renumberedState withRest
 with-says c n vs e none h = tt
 with-says c n vs e (some t) h =
@@ -179,12 +179,12 @@ with-says c n vs e (some t) h =
       numbered = rw (h .numbered);
     }
 
-pub state-says : (vs : List ℕ) → StateSays vs (stateFrom vs)
+pub state-says : (vs : List ℕ) → StateSays vs (stateFrom mostSlots vs)
 unfolding stateFrom
 state-says [] = tt
 state-says (c ∷ []) = tt
-state-says (c ∷ (n ∷ vs)) = go (isCount c n) refl
+state-says (c ∷ (n ∷ vs)) = go (isCount mostSlots c n) refl
   where
-    go : (b : Bool) → isCount c n ≡ b → StateSays (c ∷ (n ∷ vs)) (stateFrom (c ∷ (n ∷ vs)))
+    go : (b : Bool) → isCount mostSlots c n ≡ b → StateSays (c ∷ (n ∷ vs)) (stateFrom mostSlots (c ∷ (n ∷ vs)))
     go false e = rw (e, stateFrom) tt
     go true e = rw (e, stateFrom) (with-says c n vs e (topFrom n vs) (top-says n vs))

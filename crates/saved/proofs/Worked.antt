@@ -10,7 +10,7 @@ use Rattle.tree.specs.State.{State, state, Top, full, nodes, upwards, prepared}
 use Rattle.encoding.specs.Numbers.{lastGroup, below, groups, number}
 use Rattle.numbers.specs.Shortest.{shortest, bytesOf}
 use Rattle.saved.specs.Saved.{treeNumbers, topNumbers, savedNumbers, bytesOfAll, savedBytes, withRest}
-use Rattle.saved.specs.Loaded.{before, numbersAt, nodeNumbers, countNumbers, numbersIn, treeFrom, inOrder, sameSums, isGood, isNone, isWhole, wholeTop, topFrom, isCount, withTop, stateFrom, loadedNumbers, loaded, placeIn, badPlace}
+use Rattle.saved.specs.Loaded.{before, numbersAt, nodeNumbers, countNumbers, numbersIn, treeFrom, inOrder, sameSums, isGood, isNone, isWhole, wholeTop, topFrom, isCount, withTop, stateFrom, loadedNumbers, loadedUpTo, loaded, placeIn, badPlace}
 
 -- 01's P1, with its slots in any order
 abbrev p1 : (a b c d e f g : ℕ) → Top
@@ -30,7 +30,7 @@ pub read : List (Option State)
 read = loaded p1-bytes ∷ loaded (7 ∷ 0 ∷ []) ∷ []
 
 pub read-examples : read ≡ some (state 9 (p1 1 2 3 4 5 6 7) (8 ∷ 9 ∷ [])) ∷ some (prepared 7) ∷ []
-unfolding read loaded loadedNumbers numbersIn countNumbers nodeNumbers numbersAt before number groups lastGroup below stateFrom withTop isCount topFrom wholeTop isWhole isNone isGood sameSums inOrder treeFrom size level withRest nodes upwards prepared
+unfolding read loadedUpTo loadedNumbers numbersIn countNumbers nodeNumbers numbersAt before number groups lastGroup below stateFrom withTop isCount topFrom wholeTop isWhole isNone isGood sameSums inOrder treeFrom size level withRest nodes upwards prepared
 read-examples = refl
 
 -- Bytes that no writer produces, and the byte at which each goes wrong.
@@ -43,9 +43,9 @@ forms =
     ∷ (7 ∷ 128 ∷ 128 ∷ 128 ∷ 128 ∷ 128 ∷ [])
     -- more nodes than bytes, as many as a number can say
     ∷ (7 ∷ 255 ∷ 255 ∷ 255 ∷ 255 ∷ 15 ∷ 2 ∷ 5 ∷ [])
-    -- C 0, C 1,024; N above C; N even
+    -- C 0, C 16,384; N above C; N even
     ∷ (0 ∷ 0 ∷ [])
-    ∷ (128 ∷ 8 ∷ 0 ∷ [])
+    ∷ (128 ∷ 128 ∷ 1 ∷ 0 ∷ [])
     ∷ (1 ∷ 3 ∷ 3 ∷ 5 ∷ 2 ∷ 5 ∷ 2 ∷ 6 ∷ [])
     ∷ (7 ∷ 2 ∷ 2 ∷ 5 ∷ 2 ∷ 6 ∷ [])
     -- a node missing; a node too many
@@ -79,9 +79,9 @@ all-none (none ∷ xs) = all-none xs
 all-none (some S ∷ xs) = false
 
 pub refused-examples : all-none (allLoaded forms) ≡ true
-unfolding all-none allLoaded forms loaded loadedNumbers numbersIn countNumbers nodeNumbers numbersAt before number groups lastGroup below stateFrom withTop isCount topFrom wholeTop isWhole isNone isGood sameSums inOrder treeFrom size level withRest nodes upwards prepared
+unfolding all-none allLoaded forms loadedUpTo loadedNumbers numbersIn countNumbers nodeNumbers numbersAt before number groups lastGroup below stateFrom withTop isCount topFrom wholeTop isWhole isNone isGood sameSums inOrder treeFrom size level withRest nodes upwards prepared
 refused-examples = refl
 
-pub place-examples : allPlaces forms ≡ 0 ∷ 1 ∷ 1 ∷ 5 ∷ 8 ∷ 2 ∷ 3 ∷ 8 ∷ 6 ∷ 6 ∷ 8 ∷ 5 ∷ 4 ∷ 8 ∷ 8 ∷ 8 ∷ 12 ∷ 10 ∷ 7 ∷ 7 ∷ []
+pub place-examples : allPlaces forms ≡ 0 ∷ 1 ∷ 1 ∷ 5 ∷ 8 ∷ 2 ∷ 4 ∷ 8 ∷ 6 ∷ 6 ∷ 8 ∷ 5 ∷ 4 ∷ 8 ∷ 8 ∷ 8 ∷ 12 ∷ 10 ∷ 7 ∷ 7 ∷ []
 unfolding allPlaces forms badPlace placeIn numbersIn countNumbers nodeNumbers numbersAt before number groups lastGroup below
 place-examples = refl

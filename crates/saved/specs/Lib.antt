@@ -3,3 +3,4 @@ pub mod Loaded
 pub mod Calls
 pub mod There
 pub mod Misread
+pub mod Older

@@ -95,27 +95,30 @@ topFrom zero [] = some empty
 topFrom zero (v ∷ vs) = none
 topFrom (suc n) vs = wholeTop (suc n) (treeFrom ((suc n + 1) / 2) 1 vs)
 
--- 01 (RULES 1.1): "C from 1 to 1,023"; N is at most C.
-unfoldable pub isCount : ℕ → ℕ → Bool
-isCount c n = leb 1 c && (leb c mostSlots && leb n c)
+-- C is from 1 to the most slots that an installation's pools may have (RULES 1.1), N at most C.
+unfoldable pub isCount : (most c n : ℕ) → Bool
+isCount most c n = leb 1 c && (leb c most && leb n c)
 
 unfoldable pub withTop : ℕ → Option Top → Option State
 withTop c none = none
 withTop c (some t) = some (withRest c t)
 
 -- The State that the numbers stand for, if a writer writes them.
-unfoldable pub stateFrom : List ℕ → Option State
-stateFrom [] = none
-stateFrom (c ∷ []) = none
-stateFrom (c ∷ (n ∷ vs)) = elim (isCount c n) [ true ↦ withTop c (topFrom n vs) | false ↦ none ]
+unfoldable pub stateFrom : (most : ℕ) → List ℕ → Option State
+stateFrom most [] = none
+stateFrom most (c ∷ []) = none
+stateFrom most (c ∷ (n ∷ vs)) = elim (isCount most c n) [ true ↦ withTop c (topFrom n vs) | false ↦ none ]
 
 -- RULES 16.5: what the reader makes of bytes, a State; or nothing, of "bytes that no writer produces". No byte is left over.
-unfoldable pub loadedNumbers : ℕ → Numbers → Option State
-loadedNumbers end (misread j) = none
-loadedNumbers end (numbers vs next) = elim (eqb next end) [ true ↦ stateFrom vs | false ↦ none ]
+unfoldable pub loadedNumbers : (most end : ℕ) → Numbers → Option State
+loadedNumbers most end (misread j) = none
+loadedNumbers most end (numbers vs next) = elim (eqb next end) [ true ↦ stateFrom most vs | false ↦ none ]
 
-unfoldable pub loaded : List ℕ → Option State
-loaded bytes = loadedNumbers (length bytes) (numbersIn bytes)
+unfoldable pub loadedUpTo : (most : ℕ) → List ℕ → Option State
+loadedUpTo most bytes = loadedNumbers most (length bytes) (numbersIn bytes)
+
+abbrev pub loaded : List ℕ → Option State
+loaded = loadedUpTo mostSlots
 
 -- 02 (ii) (RULES 16.8): "its 13 gives the place of the first bad number, and the count of saved bytes where every number reads but no writer
 -- produces the whole".

@@ -1,6 +1,6 @@
 -- 02 (v): "Keep L in the fourth header word, true after every prepare, insert, delete, step, settle". Of a pool that passes the audit that
 -- word is L of the tree that the words show (`level-true`), and so it is after each of the five (`prepare-level-true` .. `settle-level-true`).
--- It is the report's second number (`level-reported`). By the words alone, where it moves and that it moves nowhere else: an insert that is
+-- It is the report's second number (`level-reported`), and at most 255 (`level-low`). By the words alone, where it moves and that it moves nowhere else: an insert that is
 -- done raises it by 1 where N was 1 (`insert-level-word`); a delete that is done lowers it by the sibling's weight where the leaf hung right under
 -- the root (`delete-level-word`), and to 0 where N was 3 (`last-delete-level-word`); a step that is done moves it at the root alone, as the tables
 -- `risesBy` and `fallsBy` say (`step-level-word`): by its number, 1 up and 6 down (`step-level-by-number`). A refused command changes no word
@@ -12,20 +12,22 @@ use mathlib.Core.Logic.{_≢_}
 use mathlib.Core.Bool.{true, false, _&&_}
 use mathlib.Core.List.{List}
 use lib.Dec.{eqb, leb}
+use lib.ListN.{getD}
 use native.Mathlib.Omega.{arith}
-use Prim.Native.Nat.{ℕ, _+_, _<_}
+use Prim.Native.Nat.{ℕ, _+_, _≤_, _<_}
 use borrow.Author.Tests.{eq-eqb, ne-eqb}
 use Rattle.tree.specs.declared.Kind.{Kind}
 use Rattle.tree.specs.declared.Kind.the-variants.{Blacken, SingleLeft, SingleRight, DoubleLeft, DoubleRight, Lighten, LightenLeft, LightenRight}
 use Rattle.tree.specs.declared.Named.the-variants.{Known}
 use Rattle.tree.specs.declared.Answer.the-variants.{Done}
 use Rattle.tree.specs.declared.Refusal.the-variants.{KeyAbsent}
-use Rattle.tree.specs.Codes.{kindNumber, named}
+use Rattle.tree.specs.Codes.{mostLevel, kindNumber, named}
 use Rattle.tree.specs.Tree.{Tree, slotOf, isLeaf, one}
 use Rattle.tree.specs.Kinds.{risesBy, fallsBy}
 use Rattle.tree.specs.State.{State, Top, empty, full, levelTop, keyEnd, Outcome, refuses, report, delete, step}
 use Rattle.tree.proofs.Tests.{same-or-not}
 use Rattle.tree.proofs.KindNumbers.{named-number}
+use Rattle.tree.proofs.SoundStates.{sound-level}
 use Rattle.tree.proofs.Delete.{rootCut}
 use Rattle.tree.proofs.StepState.{in-empty, step-caused, StepCase, refused, taken, stepping}
 use Rattle.tree.proofs.Levelled.{level-at-insert, level-at-delete, level-at-last-delete, level-at-step}
@@ -51,6 +53,10 @@ use Rattle.set.proofs.Passing.{shown, passing-state, prepare-passing, i
 pub level-true : {p : List ℕ} → Passing p → LevelTrue p
 unfolding headerOf
 level-true g = shows-level (passing-state g .1)
+
+-- 02 (viii): "255 remains enough for L."
+pub level-low : {p : List ℕ} → Passing p → getD p 3 0 ≤ mostLevel
+level-low g = omega (arith, level-true g, sound-level (passing-state g .0))
 
 -- "true after every prepare, insert, delete, step, settle"
 pub prepare-level-true : (p : List ℕ) → lengthGood p ≡ true → LevelTrue (preparedWords p)

@@ -128,7 +128,7 @@ pub fn slots_in(pool: &[u32]) -> usize
     if parts == 0 { 0 } else { parts - 1 }
 }
 
-// The last slot: C, and no more than MOST_SLOTS of a pool that is longer than 01 allows.
+// The last slot: C, and no more than MOST_SLOTS of a pool that is longer than one may be.
 pub fn last_slot(pool: &[u32]) -> u32
     ensures { λ r. ⌜ r ≡ lastSlot (now (pool .entry)) ⌝ }
 {
@@ -140,7 +140,7 @@ pub fn last_slot(pool: &[u32]) -> u32
     }
 }
 
-// 01: "C from 1 to 1,023, so its length is 4 + 4C."
+// 01: "its length is 4 + 4C"; 02 (viii): "Raise C to 16,383. [..] Code 1 follows the new limit."
 pub fn length_good(pool: &[u32]) -> bool
     ensures { λ r. ⌜ r ≡ lengthGood (now (pool .entry)) ⌝ }
 {

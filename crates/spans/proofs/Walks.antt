@@ -1,7 +1,7 @@
 -- How a count walks over words that hold a tree in order, with as many slots to visit, and to go down, as the tree has: to what was found before it
 -- adds the tree's keys of the span, and it visits as many slots as the same walk over the tree has nodes (`tally-holds`, `walked`).
 -- Why: each slot on the walk holds a node, whose left and right are its children's slots; and a side that is passed over has no key of the span. What
--- was found and what may still be visited are together at most 1,023 and never rise (`tally-fits`), so no sum wraps. Assumes nothing.
+-- was found and what may still be visited are together at most 16,383 and never rise (`tally-fits`), so no sum wraps. Assumes nothing.
 use mathlib.Core.Path.{_≡_, refl, ap, _∙_}
 use mathlib.Core.Logic.{_≢_}
 use mathlib.Core.Bool.{Bool, true, false}

@@ -1,28 +1,32 @@
 -- Demand 3, of sound States and the commands `step` and `settle`: every accepted step lowers (3N+1)D + 2NR + Q, the report's last
 -- number, so that at most so many are accepted in a row, of any slots and kinds (`accepted-falls`, `accepted-bounded`); some step
--- is accepted until the tree is red-black, and then none (`some-accepted`, `none-accepted`); settle answers code 0 exactly
--- when it leaves a red-black tree, and does so with so large a budget (`settle-code-0`, `settle-enough`; its steps: SettleAnswers.antt).
+-- is accepted until the tree is red-black, and then none (`some-accepted`, `none-accepted`); at L = 255 one of kind 6 is
+-- (`lighten-accepted`); settle answers code 0 exactly when it leaves a red-black tree, and does so with so large a budget (`settle-code-0`,
+-- `settle-enough`; its steps: SettleAnswers.antt).
 -- Why: a sound State's tree is what the laws on trees ask, and an accepted step is one of theirs; an empty tree allows none.
 -- Assumes nothing.
 use mathlib.Core.Path.{_≡_, refl, ap, _∙_}
 use mathlib.Core.Logic.{_↔_, _⊎_, inl, inr}
+use mathlib.Core.Bool.{false}
 use native.Mathlib.Omega.{arith}
 use Prim.Native.Nat.{ℕ, suc, _+_, _≤_, _<_}
 use Rattle.tree.specs.declared.Kind.{Kind}
+use Rattle.tree.specs.declared.Kind.the-variants.{Lighten}
 use Rattle.tree.specs.declared.Answer.the-variants.{Done}
-use Rattle.tree.specs.Codes.{kindNumber, codeOf}
+use Rattle.tree.specs.Codes.{mostSlots, mostLevel, kindNumber, codeOf}
 use Rattle.tree.specs.Tree.{Tree, size}
 use Rattle.tree.specs.Distances.{bound, RedBlack}
-use Rattle.tree.specs.State.{State, Top, empty, full, Sound, Outcome, step, report}
+use Rattle.tree.specs.Kinds.{atLimit}
+use Rattle.tree.specs.State.{State, Top, empty, full, levelTop, Sound, Outcome, step, report}
 use Rattle.tree.specs.Settle.{settle}
 use Rattle.tree.proofs.KindNumbers.{named-known}
+use Rattle.tree.proofs.Relation.{Step}
 use Rattle.tree.proofs.Steps.{step-whole}
 use Rattle.tree.proofs.StepState.{tree-good, tree-once, tree-slot, StepCase, refused, taken, stepping, step-sound-state, Accepted, accepted-iff}
 use Rattle.tree.proofs.Totals.{size-within}
 use Rattle.tree.proofs.Excess.{excess-none}
-use Rattle.tree.proofs.Limits.{widest, slots-within}
 use Rattle.tree.proofs.Bound.{bound-falls}
-use Rattle.tree.proofs.Progress.{red-black-bound, none-when-red-black, Accepts, accepts, step-until-red-black}
+use Rattle.tree.proofs.Progress.{CanMake, can-make, red-black-bound, none-when-red-black, Accepts, accepts, lighten-at-limit, step-until-red-black}
 use Rattle.tree.proofs.Settling.{lastAfter, proper-made, sound-proper, settle-after, settle-code, settle-empty}
 use Rattle.tree.proofs.Settled.{Held, settle-held, none-left-exactly, settles-red-black}
 
@@ -65,9 +69,6 @@ balanced-bound S b = go (S .top) refl
 
 -- What the laws on trees ask of a sound State's tree
 module _ (S : State) (t : Tree) (h : Sound S) (e : S .top ≡ full t) where
-  few-slots : S .slots ≤ widest
-  few-slots = omega (arith, slots-within, h .few)
-
   pub sound-held : Held (S .slots) t
   sound-held = record {
     proper = sound-proper S t e h;
@@ -75,8 +76,8 @@ module _ (S : State) (t : Tree) (h : Sound S) (e : S .top ≡ full t) where
     inside = λ s n. let i = tree-slot S t h e s n in record { from-one = i .numbered; to-last = i .within };
   }
 
-  pub sound-small : size t ≤ widest
-  sound-small = omega (arith, few-slots, size-within (S .slots) t (sound-held .inside) (sound-held .proper .once))
+  pub sound-small : size t ≤ mostSlots
+  sound-small = omega (arith, h .few, size-within (S .slots) t (sound-held .inside) (sound-held .proper .once))
 
 -- Every accepted step lowers the bound.
 pub accepted-falls : (s n m : ℕ) (S : State) → Sound S → (step s n S) .answer ≡ Done m → boundOf ((step s n S) .after) < boundOf S
@@ -100,22 +101,41 @@ accepted-bounded (taken-first s n {a} {S} d rest) h = omega (arith, accepted-fal
 pub data SomeAccepted (S : State) : Type 0 where
   some-accepted-is : (s : ℕ) (k : Kind) → (step s (kindNumber k) S) .answer ≡ Done (kindNumber k) → SomeAccepted S
 
+-- a step of the tree that is not refused with 11
+made-accepted : (S : State) (t : Tree) → Sound S → S .top ≡ full t → {k : Kind} {s q : ℕ} {u : Tree} → Step k s 1 t q u → atLimit k s t ≡ false
+    → (step s (kindNumber k) S) .answer ≡ Done (kindNumber k)
+made-accepted S t h e {k} {s} g f =
+    let n = kindNumber k in
+    let c = step-whole g (tree-once S t h e s) .0 in
+    let a : Accepted s n n t = record { kind = k; is-named = named-known k; holds = c; below-limit = f; number = refl } in
+    accepted-iff s n S h t e n .1 a
+
 pub some-accepted : (S : State) → Sound S → BalancedState S ⊎ SomeAccepted S
 some-accepted S h = go (S .top) refl
   where
     tree : (t : Tree) → S .top ≡ full t → RedBlack t ⊎ Accepts t → BalancedState S ⊎ SomeAccepted S
     tree t e (inl r) = inl (balanced-is S t e .1 r)
-    tree t e (inr (accepts {k} {s} g f)) =
-        let n = kindNumber k in
-        let c = step-whole g (tree-once S t h e s) .0 in
-        let a : Accepted s n n t = record { kind = k; is-named = named-known k; holds = c; below-limit = f; number = refl } in
-        inr (some-accepted-is s k (accepted-iff s n S h t e n .1 a))
+    tree t e (inr (accepts {k} {s} g f)) = inr (some-accepted-is s k (made-accepted S t h e g f))
 
     go : (T : Top) → S .top ≡ T → BalancedState S ⊎ SomeAccepted S
     go empty e = inl (balanced-empty S e)
     go (full t) e = let i = sound-held S t h e in tree t e (step-until-red-black t (i .proper .chromatic) (i .low) (sound-small S t h e))
 
--- .. and once it is, none.
+-- 02 (viii): "255 remains enough for L": where kind 1 at the root is refused for it, kind 6 is accepted somewhere.
+pub lighten-accepted : (S : State) → Sound S → levelTop (S .top) ≡ mostLevel → (s : ℕ) × ((step s (kindNumber Lighten) S) .answer ≡ Done (kindNumber Lighten))
+unfolding levelTop atLimit
+lighten-accepted S h high = go (S .top) refl
+  where
+    tree : (t : Tree) → S .top ≡ full t → CanMake Lighten 1 t → (s : ℕ) × ((step s (kindNumber Lighten) S) .answer ≡ Done (kindNumber Lighten))
+    tree t e (can-make {s} g) = (s, made-accepted S t h e g refl)
+
+    go : (T : Top) → S .top ≡ T → (s : ℕ) × ((step s (kindNumber Lighten) S) .answer ≡ Done (kindNumber Lighten))
+    go empty e = absurd (omega (arith, ap levelTop e))
+    go (full t) e =
+        let i = sound-held S t h e in
+        tree t e (lighten-at-limit t (i .proper .chromatic) (omega (arith, ap levelTop e)) (sound-small S t h e))
+
+-- .. and once the tree is red-black, none.
 pub none-accepted : (S : State) → Sound S → BalancedState S → (s n m : ℕ) → (step s n S) .answer ≡ Done m → ⊥
 none-accepted S h b s n m = go (stepping s n S)
   where
@@ -132,7 +152,7 @@ settle-code-0 S b h = go (S .top) refl
     go (full t) e =
         let u = lastAfter (S .slots) b t in
         let c = settle-code S t e b in
-        let f = none-left-exactly (S .slots) u (few-slots S t h e) (settle-held (S .slots) b t (sound-held S t h e)) in
+        let f = none-left-exactly (S .slots) u (h .few) (settle-held (S .slots) b t (sound-held S t h e)) in
         let g = balanced-is ((settle b S) .after) u (ap (λ (T : State). T .top) (settle-after S t e b)) in
         (λ z. g .1 (f .0 (c .0 z)), λ d. c .1 (f .1 (g .0 d)))
 
@@ -143,5 +163,5 @@ settle-enough S b h enough = go (S .top) refl
     go : (T : Top) → S .top ≡ T → BalancedState ((settle b S) .after)
     go empty e = rw (settle-empty S e b) (balanced-empty S e)
     go (full t) e =
-        let r = settles-red-black (S .slots) b t (few-slots S t h e) (sound-held S t h e) (omega (arith, bound-is S t e)) in
+        let r = settles-red-black (S .slots) b t (h .few) (sound-held S t h e) (omega (arith, bound-is S t e)) in
         balanced-is ((settle b S) .after) _ (ap (λ (T : State). T .top) (settle-after S t e b)) .1 r

@@ -1,5 +1,5 @@
 -- Sound States: no slot stands twice, those that stand are from 1 to C, and together they are C (`sound-once`, `sound-within`,
--- `sound-total`); what that says of the tree (`tree-slot` to `tree-good`); and how a State is kept sound, which is what every command
+-- `sound-total`); L is at most 255 (`sound-level`); what soundness says of the tree (`tree-slot` to `tree-good`); and how a State is kept sound, which is what every command
 -- has to show: each slot stands as often as before, in the tree and the chain together, and the tree is good (`sound-moved`).
 -- Assumes nothing.
 use mathlib.Core.Path.{_≡_}
@@ -8,8 +8,9 @@ use lib.ListN.{length}
 use native.Mathlib.Omega.{arith}
 use native.Mathlib.Decide.{decLe}
 use Prim.Native.Nat.{ℕ, zero, suc, _+_, _≤_}
+use Rattle.tree.specs.Codes.{mostLevel}
 use Rattle.tree.specs.Tree.{Tree, count, countIn}
-use Rattle.tree.specs.State.{Top, full, State, state, nodes, countTop, Good, GoodTop, Sound}
+use Rattle.tree.specs.State.{Top, empty, full, State, state, nodes, levelTop, countTop, Good, GoodTop, Sound}
 use Rattle.tree.proofs.Counts.{OneOf}
 use Rattle.tree.proofs.Totals.{total-add, total-each, total-top, total-chain}
 
@@ -44,6 +45,14 @@ module _ {S : State} (sound : Sound S) where
         total-add (λ s. countTop s (S .top)) (λ s. countIn s (S .free)) n,
         total-each (λ s. countTop s (S .top) + countIn s (S .free)) n (sound .once),
       )
+
+  pub sound-level : levelTop (S .top) ≤ mostLevel
+  unfolding levelTop GoodTop
+  sound-level = go (S .top) (sound .good)
+    where
+      go : (t : Top) → GoodTop t → levelTop t ≤ mostLevel
+      go empty g = omega arith
+      go (full t) g = g .low
 
   -- another top and chain of the same slots, and a good tree, in their place
   pub sound-moved : {t : Top} {fs : List ℕ} → ((s : ℕ) → countTop s t + countIn s fs ≡ countTop s (S .top) + countIn s (S .free)) → GoodTop t

@@ -2,7 +2,7 @@
 -- show its State (`insert-shows`); the entry of a pool leaves a pool that shows it (`insert-entry`).
 -- Why: the two slots taken are free ones, so the three slots that are written are apart, and no other slot of the tree or of the rest
 -- of the chain is among them. The tree is the old one with one subtree replaced, v's leaf by the new inner node (`insert-in`). The
--- sums do not wrap, for a sound pool has at most 1,023 nodes. The search ends at the root only where that is a leaf, so L becomes 1 with
+-- sums do not wrap, for a sound pool has at most 16,383 nodes. The search ends at the root only where that is a leaf, so L becomes 1 with
 -- the second key and else stays (`insert-level`). Assumes nothing.
 use mathlib.Core.Path.{_≡_, refl, ap, sym, _∙_}
 use mathlib.Core.Logic.{_≢_}

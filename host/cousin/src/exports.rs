@@ -23,8 +23,8 @@ unsafe fn lent_mut<'a, T>(pointer: *mut T, len: usize) -> &'a mut [T] {
 }
 
 #[no_mangle]
-pub extern "C" fn chromatic_interface_7() -> u32 {
-    7
+pub extern "C" fn chromatic_interface_8() -> u32 {
+    8
 }
 
 /// # Safety

@@ -2,7 +2,7 @@
 
 use crate::code;
 
-pub const MOST_SLOTS: usize = 1023;
+pub const MOST_SLOTS: usize = 16_383;
 pub const HEAVIEST: u32 = 255;
 /// The weight word of a free slot.
 pub const FREE: u32 = u32::MAX;
@@ -91,7 +91,7 @@ pub fn set_level(pool: &mut [u32], level: u32) {
     pool[LEVEL] = level;
 }
 
-/// C, if the length is 4 + 4C with C from 1 to 1,023.
+/// C, if the length is 4 + 4C with C from 1 to 16,383.
 pub fn slots(words: usize) -> Option<u32> {
     let c = words / WORDS;
     (words % WORDS == 0 && (2..=MOST_SLOTS + 1).contains(&c)).then(|| c as u32 - 1)

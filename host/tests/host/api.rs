@@ -1,6 +1,6 @@
 //! The safe crate: every answer as a type, the batch's limits, and what a refusal leaves.
 
-use crate::pools::{grown, Shape, Weights};
+use crate::pools::{grown, Shape, Weights, LARGE, LARGE_KEYS};
 use crate::rng::Rng;
 use crate::twin;
 use chromatic::{
@@ -426,7 +426,7 @@ fn a_pushed_insert_inserts_nothing() -> Result<(), Refused> {
 /// "C slots hold (C+1)/2 keys", and the next insert says so, whatever was deleted and inserted before.
 #[test]
 fn slots_hold_so_many_keys() -> Result<(), Refused> {
-    for slots in (1..=20).chain([127, 1022, 1023]) {
+    for slots in (1..=20).chain([127, LARGE - 1, LARGE]) {
         let mut pool = Pool::prepare(vec![0; Pool::words_for(slots)])?;
         let most = (slots as u32 + 1) / 2;
         assert_eq!((pool.slots(), pool.most_keys()), (slots, most as usize));
@@ -444,19 +444,65 @@ fn slots_hold_so_many_keys() -> Result<(), Refused> {
             }
         }
     }
-    let [most, keys] = [Pool::MOST_SLOTS, Pool::words_for(127)];
-    assert_eq!((most, keys), (1023, 512));
+    Ok(())
+}
+
+/// The same of the most slots, filled and emptied by whole batches: 8,192 keys.
+#[test]
+fn the_most_slots_hold_8192_keys() -> Result<(), Box<dyn Error>> {
+    assert_eq!(Pool::MOST_SLOTS, 16_383);
+    let mut pool = Pool::prepare(vec![0; Pool::words_for(Pool::MOST_SLOTS)])?;
+    assert_eq!((pool.slots(), pool.most_keys()), (16_383, 8192));
+    let keys: Vec<u32> = (0..8192).map(|i| i * 40_503 % 65_536).collect(); // in no order
+    for some in keys.chunks(256) {
+        let mut batch = Batch::new();
+        some.iter().try_for_each(|&key| batch.push_insert(key))?;
+        let answers: Vec<Answer> = pool.run(&batch)?.collect();
+        assert!(answers.into_iter().all(|answer| matches!(answer, Answer::Insert { answer: Inserted::NewlyMarked(_), .. })));
+    }
+    assert!(no_room(pool.insert(65_536)?) && present(pool.insert(keys[8191])?));
+    assert_eq!((pool.keys()?, pool.count(0..=u32::MAX)?), (8192, 8192));
+    let mut out = vec![0; pool.most_saved_bytes()?];
+    let again = Pool::load(vec![7; Pool::words_for(Pool::MOST_SLOTS)], pool.save(&mut out)?)?;
+    assert_eq!(again.report()?, pool.report()?);
+    for some in keys.chunks(256) {
+        let mut batch = Batch::new();
+        some.iter().try_for_each(|&key| batch.push_delete(key))?;
+        let answers: Vec<Answer> = pool.run(&batch)?.collect();
+        assert!(answers.into_iter().all(|answer| matches!(answer, Answer::Delete { answer: Deleted::Cleared { .. }, .. })));
+    }
+    assert_eq!(pool.keys()?, 0);
+    Ok(())
+}
+
+/// A pool is as large as the bytes say: of another size they are refused, and the refusal says what to do. Nothing is written.
+#[test]
+fn bytes_of_a_larger_pool() -> Result<(), Refused> {
+    let mut out = [0; Pool::saved_bytes_for(1023)];
+    let mut larger = Pool::prepare(vec![0; Pool::words_for(16_383)])?;
+    drop(mark(larger.insert(4411)?));
+    let saved = larger.save(&mut out)?;
+    let mut words = vec![7; Pool::words_for(1023)];
+    let refused = Pool::load(&mut words[..], saved).map(drop);
+    assert_eq!(refused, Err(Refused::NoFit));
+    assert!(refused.unwrap_err().to_string().contains("to load, lend words for as many slots as were saved"));
+    // C is 16,384, as a later version may save it.
+    let refused = Pool::load(&mut words[..], &[0x80, 0x80, 0x01, 0x00]).map(drop);
+    assert_eq!(refused, Err(Refused::BadSaved { wrong_at: 4 }));
+    assert!(refused.unwrap_err().to_string().contains("if a later version saved them, of more than 16383 slots, load them with that one"));
+    assert!(words.iter().all(|&word| word == 7));
+    assert!(present(Pool::load(vec![0; Pool::words_for(16_383)], saved)?.insert(4411)?));
     Ok(())
 }
 
 #[test]
 fn words_for_refuses_other_counts() {
-    for slots in [0, 1024, usize::MAX / 4, usize::MAX] {
+    for slots in [0, 16_384, usize::MAX / 4, usize::MAX] {
         assert!(std::panic::catch_unwind(|| Pool::words_for(slots)).is_err(), "{slots} slots");
         assert!(std::panic::catch_unwind(|| Pool::saved_bytes_for(slots)).is_err(), "{slots} slots");
     }
-    assert_eq!([1, 1023].map(Pool::words_for), [8, 4096]);
-    assert_eq!([1, 1023].map(Pool::saved_bytes_for), [11, 7165]);
+    assert_eq!([1, 1023, 1024, 16_383].map(Pool::words_for), [8, 4096, 4100, 65_536]);
+    assert_eq!([1, 1023, 1024, 16_383].map(Pool::saved_bytes_for), [11, 7165, 7172, 114_685]);
 }
 
 /// A pool of 9 slots with 01's P1 in it, and its saved form worked by hand: C, N, then each node from the root.
@@ -637,13 +683,13 @@ fn a_pool_of_before_with_one_key_is_taken_up() -> Result<(), Refused> {
 /// The largest saved set: every number as long as it can be.
 #[test]
 fn the_longest_saved_set() -> Result<(), Refused> {
-    let keys: Vec<u32> = (u32::MAX - 511..=u32::MAX).collect();
-    let words = grown(&mut Rng::seeded("a large saved set", 9200), 1023, &keys, 255, Shape::Halves, Weights::Red).words();
+    let keys: Vec<u32> = (u32::MAX - 8191..=u32::MAX).collect();
+    let words = grown(&mut Rng::seeded("a large saved set", 9200), Pool::MOST_SLOTS, &keys, 255, Shape::Halves, Weights::Red).words();
     let pool = Pool::resume(words)?;
     let mut out = [0; Pool::saved_bytes_for(Pool::MOST_SLOTS)];
     assert_eq!(pool.most_saved_bytes()?, out.len());
     let saved = pool.save(&mut out)?;
-    assert_eq!(saved.len(), 4 + 512 * 7 + 511 * 6, "leaves of weight 255 take seven bytes, inner nodes of weight 0 or 1 six");
+    assert_eq!(saved.len(), 4 + 8192 * 7 + 8191 * 6, "leaves of weight 255 take seven bytes, inner nodes of weight 0 or 1 six");
     let again = Pool::load(vec![0; Pool::words_for(Pool::MOST_SLOTS)], saved)?;
     assert_eq!(again.report(), pool.report());
     Ok(())
@@ -655,7 +701,7 @@ fn the_longest_saved_set() -> Result<(), Refused> {
 fn a_set_is_saved_to_a_vec() -> Result<(), Refused> {
     let (pool, bytes) = p1();
     assert_eq!(pool.save_to_vec()?, bytes);
-    assert_eq!(Pool::prepare(vec![0; Pool::words_for(1023)])?.save_to_vec()?, [0xFF, 0x07, 0]);
+    assert_eq!(Pool::prepare(vec![0; Pool::words_for(Pool::MOST_SLOTS)])?.save_to_vec()?, [0xFF, 0x7F, 0]);
     Ok(())
 }
 
@@ -756,7 +802,7 @@ fn the_lowest_gap_is_the_attempt() -> Result<(), Refused> {
 /// The accident of 5:04: the set is full, and the sender asks again and again. Nothing goes, and no word changes.
 #[test]
 fn a_full_set_sends_nothing() -> Result<(), Refused> {
-    for slots in (1..=20).chain([1023]) {
+    for slots in (1..=20).chain([LARGE]) {
         let mut pool = Pool::prepare(vec![0; Pool::words_for(slots)])?;
         let most = pool.most_keys() as u32;
         for resident in 0..most {
@@ -985,11 +1031,18 @@ fn one_figure_is_one_call() -> Result<(), Refused> {
 /// A bound that fits no command: the budget is the largest that does.
 #[test]
 fn a_bound_above_32_bits() -> Result<(), Refused> {
-    let keys: Vec<u32> = (0..512).collect();
-    let mut words = grown(&mut Rng::seeded("a heavy tree", 9100), 1023, &keys, 255, Shape::Halves, Weights::Red).words();
+    let keys: Vec<u32> = (0..LARGE_KEYS as u32).collect();
+    let mut words = grown(&mut Rng::seeded("a heavy tree", 9100), LARGE, &keys, 255, Shape::Halves, Weights::Red).words();
     let report = Pool::resume(&mut words[..])?.report()?;
     assert!(report.bound > u32::MAX.into(), "{report:?}");
     assert_eq!(report.settle_budget(), u32::MAX);
+    // Of the most slots D is so too: 8,192 leaves of weight 255, each with 16,382 nodes outside.
+    let keys: Vec<u32> = (0..8192).collect();
+    let words = grown(&mut Rng::seeded("the heaviest tree", 9101), Pool::MOST_SLOTS, &keys, 255, Shape::Halves, Weights::Red).words();
+    let report = Pool::resume(words)?.report()?;
+    assert_eq!((report.excess_weight, report.over_distance), (8192 * 254, 8192 * 254 * 16_382));
+    assert!(report.over_distance > u32::MAX.into() && report.bound > 1 << 50, "{report:?}");
+    assert_eq!((report.keys(), report.settle_budget()), (8192, u32::MAX));
     Ok(())
 }
 
@@ -1054,7 +1107,8 @@ fn errors_are_errors() {
     assert_eq!(
         Refused::BadSaved { wrong_at: 41 }.to_string(),
         "refused with code 13: these bytes are no saved set: they go wrong at byte 41, counted from 0, or, where that is their count, are \
-         cut short or wrong as a whole; which texts went is not known: send none, do not begin empty, put back the bytes of the last save"
+         cut short or wrong as a whole; which texts went is not known: send none, do not begin empty, put back the bytes of the last save; \
+         if a later version saved them, of more than 16383 slots, load them with that one"
     );
     assert_eq!(
         Refused::NoFit.to_string(),

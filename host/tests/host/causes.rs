@@ -1,6 +1,7 @@
 //! Why bytes are refused with 13, and where: the causes, told apart by a reader of their own, and stored cases of each.
 
 use crate::pair::same_load;
+use crate::twin::MOST_SLOTS;
 use std::fmt::Debug;
 
 #[derive(Clone, Copy, Debug, PartialEq)]
@@ -103,7 +104,7 @@ impl Walk<'_> {
 
 fn judged(c: u32, nodes: &[[u32; 2]]) -> Result<(), Cause> {
     must(c > 0, Cause::NoSlots)?;
-    must(c <= 1023, Cause::SlotsAboveLimit)?;
+    must(c as usize <= MOST_SLOTS, Cause::SlotsAboveLimit)?;
     must(nodes.len() <= c as usize, Cause::NodesAboveSlots)?;
     if nodes.is_empty() {
         return Ok(());
@@ -134,7 +135,7 @@ const REFUSED: &[(&str, Cause, usize, &[u8])] = &[
     ("no bytes at all", Cause::NoBytes, 0, &[]),
     ("C is 0", Cause::NoSlots, 2, &[0x00, 0x00]),
     ("C is 0 and N is 1", Cause::NoSlots, 4, &[0x00, 0x01, 0x02, 0x0A]),
-    ("C is 1,024", Cause::SlotsAboveLimit, 3, &[0x80, 0x08, 0x00]),
+    ("C is 16,384", Cause::SlotsAboveLimit, 4, &[0x80, 0x80, 0x01, 0x00]),
     ("C is 4,294,967,295", Cause::SlotsAboveLimit, 12, &[0xFF, 0xFF, 0xFF, 0xFF, 0x0F, 0x03, 0x03, 0x0A, 0x02, 0x0A, 0x02, 0x14]),
     ("N above C", Cause::NodesAboveSlots, 8, &[0x02, 0x03, 0x03, 0x0A, 0x02, 0x0A, 0x02, 0x14]),
     ("N above C, in a tree that is not deep", Cause::NodesAboveSlots, 16, &[0x06, 0x07, 0x03, 0x14, 0x01, 0x0A, 0x02, 0x0A, 0x02, 0x14, 0x01, 0x1E, 0x02, 0x1E, 0x02, 0x28]),
@@ -205,8 +206,8 @@ const REFUSED: &[(&str, Cause, usize, &[u8])] = &[
     ("C is 0 and N is not there", Cause::CutShort, 1, &[0x00]),
     ("C is 0 and N in two bytes", Cause::NotShortest, 2, &[0x00, 0x83, 0x00]),
     ("C is 0 and a key in two bytes", Cause::NotShortest, 4, &[0x00, 0x01, 0x02, 0x8A, 0x00]),
-    ("C is 1,024 and N cut short", Cause::CutShort, 3, &[0x80, 0x08, 0x80]),
-    ("C is 1,024 and a key above 32 bits", Cause::Above32Bits, 8, &[0x80, 0x08, 0x01, 0x02, 0x80, 0x80, 0x80, 0x80, 0x10]),
+    ("C is 16,384 and N cut short", Cause::CutShort, 4, &[0x80, 0x80, 0x01, 0x80]),
+    ("C is 16,384 and a key above 32 bits", Cause::Above32Bits, 9, &[0x80, 0x80, 0x01, 0x01, 0x02, 0x80, 0x80, 0x80, 0x80, 0x10]),
     ("N above C and the last key cut short", Cause::CutShort, 8, &[0x01, 0x03, 0x03, 0x0A, 0x02, 0x0A, 0x02, 0x94]),
     ("N is 2 and the last key in two bytes", Cause::NotShortest, 6, &[0x09, 0x02, 0x03, 0x0A, 0x02, 0x8A, 0x00]),
     ("a red root and its key in two bytes", Cause::NotShortest, 4, &[0x09, 0x01, 0x00, 0x8A, 0x00]),
@@ -227,10 +228,13 @@ const REFUSED: &[(&str, Cause, usize, &[u8])] = &[
 
 /// The good forms that those are near to, their C, N and L.
 #[rustfmt::skip]
-const TAKEN: [(usize, u32, u32, &[u8]); 13] = [
+const TAKEN: [(usize, u32, u32, &[u8]); 16] = [
     (9, 0, 0, &[0x09, 0x00]),
     (1, 0, 0, &[0x01, 0x00]),
     (1023, 0, 0, &[0xFF, 0x07, 0x00]),
+    (1024, 0, 0, &[0x80, 0x08, 0x00]),
+    (MOST_SLOTS, 0, 0, &[0xFF, 0x7F, 0x00]),
+    (MOST_SLOTS, 3, 1, &[0xFF, 0x7F, 0x03, 0x03, 0x0A, 0x02, 0x0A, 0x02, 0x14]),
     (9, 1, 0, &[0x09, 0x01, 0x02, 0x0A]),
     (1, 1, 0, &[0x01, 0x01, 0x02, 0xFF, 0xFF, 0xFF, 0xFF, 0x0F]),
     (9, 3, 1, &[0x09, 0x03, 0x03, 0x0A, 0x02, 0x0A, 0x02, 0x14]),
@@ -257,10 +261,10 @@ fn each_cause_is_refused_with_13() {
     let mut seen = [0; CAUSES];
     for &(name, why, place, saved) in REFUSED {
         answers(name, saved, cause(saved), Some((why, place)));
-        for slots in [9, 1, 2, 3, 1023] {
+        for slots in [9, 1, 2, 3, 1023, MOST_SLOTS] {
             answers(name, saved, same_load(&pool(slots), saved).0, (13, place as u32));
         }
-        for words in [0, 4, 39, 4100] {
+        for words in [0, 4, 39, 4 + 4 * (MOST_SLOTS + 1)] {
             answers(name, saved, same_load(&vec![7; words], saved).0, (1, 0));
         }
         seen[why as usize] += 1;
@@ -289,7 +293,7 @@ fn what_is_near_to_them_is_taken() {
         let (answer, words) = same_load(&pool(slots), saved);
         answers("good", saved, answer, (0, n));
         answers("L", saved, words[3], level);
-        for other in [2, 8, 10, 1022] {
+        for other in [2, 8, 10, 1022, MOST_SLOTS - 1] {
             answers("another C", saved, same_load(&pool(other), saved).0, (14, 0));
         }
         answers("no pool", saved, same_load(&[7; 39], saved).0, (1, 0));

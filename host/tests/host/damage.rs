@@ -1,9 +1,11 @@
 //! Damaged pools: the library and the twin agree on what is broken, and nothing changes on a refusal.
 
 use crate::pair::{same_batch, same_call, same_on, Pair};
-use crate::pools::{grown, some_keys, SHAPES, WEIGHTS};
+use crate::pools::{grown, some_keys, Shape, MOST_KEYS, SHAPES, WEIGHTS};
+use crate::random::shared;
 use crate::rng::Rng;
-use crate::twin::{Call, Command, Set};
+use crate::threads::roomy;
+use crate::twin::{Call, Command, Set, MOST_SLOTS};
 
 /// Pools small enough to try every word of.
 pub fn patients(rng: &mut Rng) -> Vec<Set> {
@@ -97,6 +99,38 @@ fn every_word_set_to_every_telling_value() {
     }
     println!("compared {broken} broken pools and {sound} that a change left sound");
     assert!(sound > 100, "a router may change within its bounds");
+}
+
+/// One word of a pool of the most slots: the header's, those of the first slot and the last, and of some others.
+#[test]
+fn words_of_the_largest_pools() {
+    let (mut broken, mut sound) = (0, 0);
+    roomy(|| {
+        let mut rng = Rng::seeded("damage of one word of many", 8500);
+        let bytes =
+            Command::all(&[Command::Search(20), Command::Insert(25), Command::Step(1, 6), Command::Settle(2), Command::Count(0, 99)]);
+        let c = MOST_SLOTS as u32;
+        for shape in shared([Shape::Halves, Shape::Zigzag, Shape::ChainLeft, Shape::Any]) {
+            let (level, weights, count) = (rng.pick(&[14, 255]), rng.pick(&WEIGHTS), MOST_KEYS - rng.pick(&[0, 40]));
+            let keys = some_keys(&mut rng, count, 60_000);
+            let mut words = grown(&mut rng, MOST_SLOTS, &keys, level, shape, weights).words();
+            assert_eq!(examine(&words, &bytes), 0);
+            let slots = [0, 1, c, rng.within(2, c - 1), rng.within(2, c - 1)];
+            for at in slots.into_iter().flat_map(|slot| (0..4).map(move |part| 4 * slot as usize + part)) {
+                let own = words[at];
+                // Those of fewer bits come to the same: 14, which hold every slot's number, and 16.
+                let telling =
+                    [0, 1, c, c + 1, c + 2, own ^ 1 << 14, own ^ 1 << 16, own ^ 1 << 30, own ^ 1, own.wrapping_add(1), 256, u32::MAX];
+                for value in telling.into_iter().filter(|&value| value != own) {
+                    words[at] = value;
+                    *(if examine(&words, &bytes) == 0 { &mut sound } else { &mut broken }) += 1;
+                }
+                words[at] = own;
+            }
+        }
+    });
+    println!("compared {broken} broken pools of 16,383 slots and {sound} that a change left sound");
+    assert!(broken > 100 && sound > 0);
 }
 
 #[test]

@@ -2,9 +2,10 @@
 //! here without the twin.
 
 use crate::pair::{by_code, library_batch, same_call, Pair};
-use crate::pools::{grown, some_keys, SHAPES, WEIGHTS};
-use crate::random::{every_reached, seeds, share, step};
+use crate::pools::{grown, some_keys, Shape, LARGE, SHAPES, WEIGHTS};
+use crate::random::{every_reached, seeds, share, shared, step};
 use crate::rng::Rng;
+use crate::threads::roomy;
 use crate::twin::{Answer, Call, Command, Parts, Set, LIMITS, MOST_SLOTS, NOTICES, RESIDENTS};
 use std::collections::BTreeMap;
 use std::time::Instant;
@@ -347,13 +348,13 @@ fn arguments_at_the_ends_of_their_ranges() {
     });
 }
 
-/// "pool length is not 4 + 4C", C from 1 to 1,023.
+/// "pool length is not 4 + 4C", C from 1 to 16,383.
 #[test]
 fn lengths() {
-    let lengths = (0..=20).chain([4_091, 4_092, 4_095, 4_096, 4_097, 4_099, 4_100, 4_104, 8_192, 65_540]);
+    let lengths = (0..=20).chain([4_095, 4_096, 4_099, 4_100]).chain(65_531..=65_545).chain([131_076]);
     compared("lengths", |seen| {
         for len in lengths {
-            let good = len % 4 == 0 && (8..=4_096).contains(&len);
+            let good = len % 4 == 0 && (8..=65_536).contains(&len);
             for word in [0, 1, u32::MAX] {
                 for call in [send(1, 0, 1), send(65_535, 8_191, 7), clear(1), clear(65_535)] {
                     let code = if good { 2 } else { 1 };
@@ -371,6 +372,8 @@ struct Town {
     notices: Vec<u32>,
     residents: Vec<u32>,
     limits: Vec<u32>,
+    /// The most steps that a settle takes.
+    budget: u32,
 }
 
 impl Town {
@@ -381,7 +384,7 @@ impl Town {
             of.truncate(1 + rng.below(3));
             of
         };
-        Town { notices: few(&[1, 2, 3, 4411, 65_534, 65_535]), residents: few(&[0, 1, 2, 8_190, 8_191]), limits }
+        Town { notices: few(&[1, 2, 3, 4411, 65_534, 65_535]), residents: few(&[0, 1, 2, 8_190, 8_191]), limits, budget: u32::MAX }
     }
 
     fn notice(&self, rng: &mut Rng) -> u32 {
@@ -402,6 +405,19 @@ impl Town {
         }
     }
 
+    /// A pool full of such keys, or nearly so.
+    fn crowd(&self, rng: &mut Rng, slots: usize, shape: Shape) -> Pair {
+        let count = slots.div_ceil(2) - rng.below(20);
+        let mut keys: Vec<u32> = (0..2 * count).map(|_| self.any_key(rng)).collect();
+        keys.sort_unstable();
+        keys.dedup();
+        rng.shuffle(&mut keys);
+        keys.truncate(count);
+        keys.sort_unstable();
+        let (level, weights) = (rng.pick(&[1, 5, 255]), rng.pick(&WEIGHTS));
+        Pair::holding(grown(rng, slots, &keys, level, shape, weights))
+    }
+
     /// No mark of the town's notices.
     fn neighbour(&self, rng: &mut Rng) -> u32 {
         let notice = self.notice(rng);
@@ -417,7 +433,7 @@ impl Town {
             0 => Command::Search(self.any_key(rng)),
             1 => Command::Insert(self.neighbour(rng)),
             2 => Command::Delete(self.neighbour(rng)),
-            3 => Command::Settle(rng.pick(&[0, 1, 3, 100, u32::MAX])),
+            3 => Command::Settle(rng.pick(&[0, 1, 3, 100, u32::MAX]).min(self.budget)),
             4 => Command::AtOrAbove(self.any_key(rng)),
             5 => Command::Count(self.any_key(rng), self.any_key(rng)),
             6 => {
@@ -500,24 +516,40 @@ fn random_days() {
     assert!(share() > 1 || seen.attempts[1..].iter().all(|&yes| yes > 500), "each attempt is seen");
 }
 
-/// Pools of up to 1,023 slots, full of other marks before the day begins, or nearly so.
+/// Large pools, full of other marks before the day begins, or nearly so.
 #[test]
-fn days_in_the_largest_pools() {
+fn days_in_large_pools() {
     seeded("days in large pools", 36_000, 6, |rng, seen| {
-        for slots in [255, 1022, MOST_SLOTS] {
-            let town = Town { notices: vec![1, 2, 65_535], residents: (0..60).chain([8_191]).collect(), limits: LIMITS.collect() };
-            let count = slots.div_ceil(2) - rng.below(20);
-            let mut keys: Vec<u32> = (0..2 * count).map(|_| town.any_key(rng)).collect();
-            keys.sort_unstable();
-            keys.dedup();
-            rng.shuffle(&mut keys);
-            keys.truncate(count);
-            keys.sort_unstable();
-            let (level, shape, weights) = (rng.pick(&[1, 5, 255]), rng.pick(&SHAPES), rng.pick(&WEIGHTS));
-            let mut pair = Pair::holding(grown(rng, slots, &keys, level, shape, weights));
+        for slots in [255, LARGE - 1, LARGE] {
+            let residents = (0..60).chain([8_191]).collect();
+            let town = Town { notices: vec![1, 2, 65_535], residents, limits: LIMITS.collect(), budget: u32::MAX };
+            let shape = rng.pick(&SHAPES);
+            let mut pair = town.crowd(rng, slots, shape);
             day(rng, seen, &town, &mut pair, 200);
         }
     });
+}
+
+/// The same in pools of the most slots. Settle takes few steps: the twin looks at all slots after each.
+#[test]
+fn days_in_the_largest_pools() {
+    let seen = roomy(|| {
+        seeded("days in the largest pools", 37_000, 3, |rng, seen| {
+            for shape in shared(SHAPES) {
+                let residents = (0..560).chain([8_191]).collect();
+                let town = Town { notices: vec![1, 2, 65_535], residents, limits: LIMITS.collect(), budget: 3 };
+                let mut pair = town.crowd(rng, MOST_SLOTS, shape);
+                day(rng, seen, &town, &mut pair, 60);
+                // One notice's marks go, and there is room for others.
+                let gone = seen.call(&mut pair, clear(2)).1;
+                println!("compared a clearing of {gone} marks");
+                seen.restart(&mut pair);
+                day(rng, seen, &town, &mut pair, 20);
+            }
+        })
+    });
+    let often = |codes: &[u64], wanted: &[usize]| wanted.iter().all(|&code| codes[code] > 0);
+    assert!(share() > 1 || often(&seen.sends, &[0, 2, 7, 15, 16]) && often(&seen.clearings, &[0, 2, 15]), "each code is seen");
 }
 
 /// Every pool that calls and some commands lead to from an empty one of few slots, and on each of them every call.
@@ -629,7 +661,7 @@ fn never_more_than_the_limit() {
 fn a_full_pool_is_asked_211_times() {
     let mut rng = Rng::seeded("5:04", 33_000);
     let seen = compared("5:04", |seen| {
-        for slots in [1, 2, 3, 8, 63, 127, MOST_SLOTS] {
+        for slots in [1, 2, 3, 8, 63, 127, LARGE] {
             for limit in LIMITS {
                 let mut pair = Pair::prepared(slots);
                 // Residents as long as there is room. The last may have fewer marks than the limit.
@@ -693,11 +725,11 @@ fn clearing_takes_the_notice_and_nothing_beside_it() {
     });
 }
 
-/// Up to 1,023 slots, full of one notice's marks: the pool is empty after, and takes marks again.
+/// Small pools and large ones, full of one notice's marks: the pool is empty after, and takes marks again.
 #[test]
 fn clearing_a_notice_that_fills_the_pool() {
     seeded("pools of one notice", 35_000, 4, |rng, seen| {
-        for slots in [1, 2, 3, 7, 8, 63, 127, MOST_SLOTS] {
+        for slots in [1, 2, 3, 7, 8, 63, 127, LARGE] {
             for shape in SHAPES {
                 let notice = rng.pick(&[1, 4411, 65_535]);
                 let count = slots.div_ceil(2);

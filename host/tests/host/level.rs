@@ -3,9 +3,10 @@
 
 use crate::damage;
 use crate::pair::{same_batch, same_call, same_load, same_on, same_save, Pair, Seen};
-use crate::pools::{deepest, grown, some_keys, two_chains, Shape, SHAPES, WEIGHTS};
-use crate::random::{command, compared, share, MIXES, SMALL};
+use crate::pools::{deepest, grown, some_keys, two_chains, Shape, LARGE, MOST_KEYS, SHAPES, WEIGHTS};
+use crate::random::{command, compared, shapes_and_weights, share, MIXES, SMALL};
 use crate::rng::Rng;
+use crate::threads::roomy;
 use crate::twin::{edge, inner, leaf, Answer, Call, Command, Set, MOST_SLOTS};
 use crate::worked::{after_p1, below_the_root, heavy_beside_red, p8, rotation_case, two_leaves};
 use chromatic::{Pool, Refused};
@@ -141,15 +142,52 @@ fn kind_1_at_the_root() {
     keeps(p8(255), [1, 0, 9, 255], Settle(1), (12, 1));
 }
 
-/// The same in the largest pool, far from every leaf but two.
+/// The same in large pools and the largest, far from every leaf but two.
 #[test]
 fn kind_1_at_the_root_of_the_largest_pool() {
-    for (level, answer, after) in [(1, (0, 1), 2), (254, (0, 1), 255), (255, (11, 0), 255)] {
-        let mut pair = Pair::holding(two_chains(MOST_SLOTS, level));
-        assert_eq!((pair.header(), pair.report()[1]), ([1, 0, 1023, level], level.into()));
-        lines(&mut pair, &[(Step(1, 1), answer, [1, 0, 1023, after])]);
-        assert_eq!(pair.report()[1], after.into());
+    for slots in [LARGE, MOST_SLOTS] {
+        roomy(|| {
+            for (level, answer, after) in [(1, (0, 1), 2), (254, (0, 1), 255), (255, (11, 0), 255)] {
+                let mut pair = Pair::holding(two_chains(slots, level));
+                assert_eq!((pair.header(), pair.report()[1]), ([1, 0, slots as u32, level], level.into()));
+                lines(&mut pair, &[(Step(1, 1), answer, [1, 0, slots as u32, after])]);
+                assert_eq!(pair.report()[1], after.into());
+            }
+        });
     }
+}
+
+/// 02 (viii): "255 remains enough for L." At L = 255 a step of kind 6, 7 or 8 is allowed in every tree of the most slots, and L stays.
+#[test]
+fn l_of_255_in_the_largest_pools() {
+    let heavy = 6..=8;
+    let mut refused = 0;
+    let mut tried = |rng: &mut Rng, pair: &mut Pair| {
+        let root = pair.words[0];
+        let answer = pair.run(Step(root, 1));
+        assert!([(10, 0), (11, 0)].contains(&answer), "{answer:?}");
+        refused += u32::from(answer.0 == 11);
+        let allowed: Vec<(u32, u32)> = pair.twin.allowed().into_iter().filter(|(_, kind)| heavy.contains(kind)).collect();
+        assert!(!allowed.is_empty(), "no step of kind 6, 7 or 8");
+        for _ in 0..3 {
+            let (slot, kind) = rng.pick(&allowed);
+            assert_eq!(pair.clone().run(Step(slot, kind)), (0, kind));
+        }
+        let (code, taken) = pair.run(Settle(5));
+        assert_eq!((code, taken), (12, 5));
+        assert!(pair.words[3] <= 255);
+    };
+    roomy(|| {
+        let mut rng = Rng::seeded("L of 255 in the largest pools", 43_000);
+        tried(&mut rng, &mut Pair::holding(two_chains(MOST_SLOTS, 255)));
+        for (shape, weights) in shapes_and_weights() {
+            let keys = some_keys(&mut rng, MOST_KEYS, 1 << 20);
+            let mut pair = Pair::holding(grown(&mut rng, MOST_SLOTS, &keys, 255, shape, weights));
+            tried(&mut rng, &mut pair);
+        }
+    });
+    println!("compared kind 1 at the root with L = 255 in pools of 16,383 slots: {refused} refused with 11");
+    assert!(refused > 0);
 }
 
 /// Kind 6 at the root lowers L: both children overweighted, or one.
@@ -428,7 +466,7 @@ fn a_fourth_word_that_is_not_l() {
         sets.extend(SHAPES.map(|shape| WEIGHTS.map(|weights| grown(&mut rng, 17, &keys, level, shape, weights))).concat());
     }
     sets.extend([1, 2, 9, MOST_SLOTS].map(Set::prepared));
-    sets.extend(SHAPES.map(|shape| deepest(MOST_SLOTS, shape)));
+    sets.extend(SHAPES.map(|shape| deepest(LARGE, shape)));
     let mut refused = 0;
     for set in &sets {
         let sound = set.words();
@@ -465,7 +503,7 @@ fn a_pool_of_before() {
         before[3] = 0;
         refused_with_2(&before);
     }
-    let mut deepest = deepest(MOST_SLOTS, Shape::Zigzag).words();
+    let mut deepest = deepest(LARGE, Shape::Zigzag).words();
     deepest[3] = 0;
     refused_with_2(&deepest);
 }

@@ -17,5 +17,6 @@ mod random;
 mod rng;
 mod saved;
 mod spans;
+mod threads;
 mod twin;
 mod worked;

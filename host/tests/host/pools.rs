@@ -1,7 +1,7 @@
 //! Sound pools of every shape, built directly as trees.
 
 use crate::rng::Rng;
-use crate::twin::{edge, inner, leaf, Edge, Node, Set};
+use crate::twin::{edge, inner, leaf, Edge, Node, Set, MOST_SLOTS};
 
 /// How a subtree's keys are split between its children.
 #[derive(Clone, Copy, Debug, PartialEq)]
@@ -28,6 +28,12 @@ pub enum Weights {
     /// Anything.
     Heavy,
 }
+
+/// Slots of a large pool where the limit is not the matter: as many as were the most before request (viii).
+pub const LARGE: usize = 1023;
+/// The keys that they hold, and the most slots.
+pub const LARGE_KEYS: usize = LARGE.div_ceil(2);
+pub const MOST_KEYS: usize = MOST_SLOTS.div_ceil(2);
 
 pub const SHAPES: [Shape; 5] = [Shape::ChainRight, Shape::ChainLeft, Shape::Zigzag, Shape::Halves, Shape::Any];
 pub const WEIGHTS: [Weights; 4] = [Weights::Red, Weights::Reddish, Weights::Light, Weights::Heavy];
@@ -122,6 +128,15 @@ pub fn deepest(slots: usize, shape: Shape) -> Set {
 
 /// The same with other keys: so many from `first` on.
 pub fn deepest_from(first: u32, slots: usize, shape: Shape) -> Set {
-    let keys: Vec<u32> = (first..).take(slots.div_ceil(2)).collect();
-    grown(&mut Rng::seeded("the deepest tree", 1), slots, &keys, 1, shape, Weights::Red)
+    chain(first, slots, 1, shape)
+}
+
+/// The same with leaves of weight `level`.
+pub fn deepest_and_heavy(slots: usize, level: u32, shape: Shape) -> Set {
+    chain(0, slots, level, shape)
+}
+
+fn chain(first: u32, slots: usize, level: u32, shape: Shape) -> Set {
+    let keys: Vec<u32> = (0..slots.div_ceil(2) as u32).map(|i| first + i).collect();
+    grown(&mut Rng::seeded("the deepest tree", 1), slots, &keys, level, shape, Weights::Red)
 }

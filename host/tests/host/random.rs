@@ -1,9 +1,10 @@
 //! Random commands, one at a time and in batches, by the library and the twin; the audit after every command.
 
 use crate::pair::{library_batch, overweight, same_batch, Pair, Seen};
-use crate::pools::{grown, some_keys, Weights, SHAPES, WEIGHTS};
+use crate::pools::{grown, some_keys, Shape, Weights, LARGE, LARGE_KEYS, MOST_KEYS, SHAPES, WEIGHTS};
 use crate::rng::Rng;
-use crate::twin::{write_number, Command, Set, MOST_SLOTS};
+use crate::threads::roomy;
+use crate::twin::{read, write_number, Command, Set, MOST_SLOTS};
 use std::collections::{BTreeSet, HashSet};
 use std::ops::RangeInclusive;
 use std::time::Instant;
@@ -20,6 +21,16 @@ pub fn share() -> u64 {
 
 fn number_from(variable: &str, otherwise: u64) -> u64 {
     std::env::var(variable).map_or(otherwise, |n| n.parse().expect("a number"))
+}
+
+/// One in so many of them, by the share: the first is among them.
+pub fn shared<T>(all: impl IntoIterator<Item = T>) -> impl Iterator<Item = T> {
+    all.into_iter().step_by(share() as usize)
+}
+
+/// Every shape with all weights, or the share of that.
+pub fn shapes_and_weights() -> impl Iterator<Item = (Shape, Weights)> {
+    shared(SHAPES.into_iter().flat_map(|shape| WEIGHTS.map(|weights| (shape, weights))))
 }
 
 /// As many seeds from `first` on as the usual work, the soak and the share make.
@@ -329,10 +340,10 @@ fn excess_weight_is_read_off_the_words() {
 }
 
 #[test]
-fn largest_pools() {
+fn large_pools() {
     compared("pools of 1,023 slots", 3000, 4, |rng, seen| {
-        let mut pair = Pair::prepared(MOST_SLOTS);
-        let mut keys = some_keys(rng, 520, 5000);
+        let mut pair = Pair::prepared(LARGE);
+        let mut keys = some_keys(rng, LARGE_KEYS + 8, 5000);
         rng.shuffle(&mut keys);
         for &key in &keys {
             pair.run_seen(Command::Insert(key), seen);
@@ -348,18 +359,103 @@ fn largest_pools() {
 
 /// Heavy and red pools of 1,023 slots, settled piece by piece and to the end.
 #[test]
-fn largest_grown_pools() {
+fn large_grown_pools() {
     let mut shapes = SHAPES.into_iter().cycle();
     compared("grown pools of 1,023 slots", 4000, SHAPES.len() as u64, |rng, seen| {
         let shape = shapes.next().unwrap();
         for weights in WEIGHTS {
-            let keys = some_keys(rng, 512, 100_000);
+            let keys = some_keys(rng, LARGE_KEYS, 100_000);
             let level = if weights == Weights::Red { 1 } else { 255 };
-            let mut pair = Pair::holding(grown(rng, MOST_SLOTS, &keys, level, shape, weights));
+            let mut pair = Pair::holding(grown(rng, LARGE, &keys, level, shape, weights));
             pair.look();
             run_singly(rng, &mut pair, 60, 100_000, seen);
             pair.run_seen(Command::Settle(200), seen);
         }
+    });
+}
+
+/// A command of which settle takes few steps: the twin looks at all slots after each.
+fn quick_command(rng: &mut Rng, set: &Set, mix: &Mix, most: u32) -> Command {
+    match command(rng, set, mix, most) {
+        Command::Settle(budget) => Command::Settle(budget.min(7)),
+        other => other,
+    }
+}
+
+/// Pools of the most slots, of all shapes and weights, full or nearly so, and commands of all operations.
+#[test]
+fn pools_of_the_most_slots() {
+    const HIGHEST: u32 = 20_000;
+    let seen = roomy(|| {
+        compared("pools of 16,383 slots", 9000, 3, |rng, seen| {
+            let mut live_in = |rng: &mut Rng, mut pair: Pair| {
+                pair.look();
+                for mix in [MIXES[0], rng.pick(&MIXES)] {
+                    for _ in 0..16 {
+                        let next = quick_command(rng, &pair.twin, &mix, HIGHEST);
+                        pair.run_seen(next, seen);
+                    }
+                }
+                let root = root_slot(&pair.twin);
+                for (slot, kind) in [(MOST_SLOTS as u32 + 1, 1), (1 << 14 | root, 1), (1 << 16 | root, 1), (root, 9)] {
+                    pair.run_seen(Command::Step(slot, kind), seen);
+                }
+                pair.look();
+            };
+            for (shape, weights) in shapes_and_weights() {
+                let count = MOST_KEYS - rng.pick(&[0, 0, 1, 3, 500]);
+                let keys = some_keys(rng, count, HIGHEST);
+                let level = if weights == Weights::Red { 1 } else { rng.pick(&[14, 255]) };
+                let pair = Pair::holding(grown(rng, MOST_SLOTS, &keys, level, shape, weights));
+                live_in(rng, pair);
+            }
+            // One that is settled, by the library alone.
+            let keys = some_keys(rng, MOST_KEYS - 9, HIGHEST);
+            let mut words = grown(rng, MOST_SLOTS, &keys, 1, Shape::Halves, Weights::Red).words();
+            assert_eq!(library_batch(&mut words, &Command::all(&[Command::Settle(u32::MAX)]), &mut [0; 2]), (0, 0));
+            live_in(rng, Pair::holding(read(&words).expect("a sound pool")));
+        })
+    });
+    println!("compared codes by operation in pools of 16,383 slots: {:?}; steps by kind: {:?}", &seen.codes[1..], &seen.kinds[1..]);
+    for (operation, wanted) in
+        [(1, &[0, 6][..]), (2, &[0, 5, 7]), (3, &[0, 6]), (4, &[0, 8, 9, 10]), (5, &[0, 12]), (6, &[0]), (7, &[0]), (8, &[0])]
+    {
+        for &code in wanted {
+            assert!(share() > 1 || seen.codes[operation][code] > 0, "operation {operation} was never answered {code}");
+        }
+    }
+}
+
+/// From empty to full and back, in whole batches: the keys in any order, and settled a little after each batch.
+#[test]
+fn the_most_slots_are_filled_and_emptied() {
+    roomy(|| {
+        compared("16,383 slots filled and emptied", 9100, 1, |rng, seen| {
+            let mut keys: Vec<u32> = some_keys(rng, MOST_KEYS + 6, u32::MAX);
+            rng.shuffle(&mut keys);
+            let mut words = Pair::prepared(MOST_SLOTS).words;
+            let mut run = |words: &mut Vec<u32>, commands: Vec<Command>| {
+                let bytes = Command::all(&commands);
+                let mut answers = vec![0; 2 * commands.len()];
+                assert_eq!(same_batch(words, &bytes, answers.len()), (0, 0));
+                assert_eq!(library_batch(words, &bytes, &mut answers), (0, 0));
+                seen.commands += commands.len() as u64;
+                answers.chunks(2).map(|answer| answer[0]).collect::<Vec<u32>>()
+            };
+            for some in keys[..MOST_KEYS].chunks(250) {
+                let inserts = some.iter().map(|&key| Command::Insert(key)).chain([Command::Settle(9)]);
+                let codes = run(&mut words, inserts.collect());
+                assert!(codes[..some.len()].iter().all(|&code| code == 0), "{codes:?}");
+            }
+            assert_eq!(words[1..3], [0, MOST_SLOTS as u32], "no slot is free");
+            let more: Vec<Command> = keys[MOST_KEYS..].iter().chain(&keys[..2]).map(|&key| Command::Insert(key)).collect();
+            assert_eq!(run(&mut words, more), [7, 7, 7, 7, 7, 7, 5, 5]);
+            rng.shuffle(&mut keys);
+            for some in keys.chunks(250) {
+                run(&mut words, some.iter().map(|&key| Command::Delete(key)).chain([Command::Settle(9)]).collect());
+            }
+            assert_eq!([words[0], words[2], words[3]], [0, 0, 0], "every key is gone");
+        })
     });
 }
 

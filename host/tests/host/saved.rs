@@ -3,9 +3,10 @@
 use crate::causes::{cause, CAUSES};
 use crate::damage;
 use crate::pair::{assert_level, by_code, library_batch, same_load, same_on, same_save};
-use crate::pools::{deepest, grown, some_keys, Shape, Weights, SHAPES, WEIGHTS};
-use crate::random::{seeds, share};
+use crate::pools::{deepest, grown, some_keys, Shape, Weights, LARGE, LARGE_KEYS, MOST_KEYS, SHAPES, WEIGHTS};
+use crate::random::{seeds, share, shared};
 use crate::rng::Rng;
+use crate::threads::roomy;
 use crate::twin::{self, write_number, Answer, Command, Edge, Set, MOST_SLOTS};
 use chromatic::raw;
 use std::time::Instant;
@@ -186,7 +187,7 @@ fn pools_after_random_batches() {
             restart(&lived_in(rng, slots), rng, seen);
         }
         if rng.one_in(4) {
-            restart(&lived_in(rng, MOST_SLOTS), rng, seen);
+            restart(&lived_in(rng, LARGE), rng, seen);
         }
     });
     assert!(share() > 1 || [0, 14].iter().all(|&code| seen.saves[code] > 1000 && seen.loads[code] > 500));
@@ -198,7 +199,7 @@ fn grown_pools_over_a_restart() {
     seeded("restarts of grown pools", 11_000, 50, |rng, seen| {
         for shape in SHAPES {
             for weights in WEIGHTS {
-                let slots: usize = if rng.one_in(12) { MOST_SLOTS } else { rng.pick(&[1, 2, 3, 9, 21, 41, 127, 128]) };
+                let slots: usize = if rng.one_in(12) { LARGE } else { rng.pick(&[1, 2, 3, 9, 21, 41, 127, 128]) };
                 let most = slots.div_ceil(2);
                 let keys = if rng.one_in(3) { most } else { rng.below(most + 1) };
                 let highest = rng.pick(&[4 * slots as u32, 100_000, u32::MAX]);
@@ -212,23 +213,46 @@ fn grown_pools_over_a_restart() {
 
 /// As deep as it gets, as heavy as it gets, as long as it gets: 512 keys of five bytes.
 #[test]
-fn largest_pools_over_a_restart() {
+fn large_pools_over_a_restart() {
     let mut longest = 0;
     seeded("restarts of 1,023 slots", 12_000, 1, |rng, seen| {
         for shape in SHAPES {
-            let words = deepest(MOST_SLOTS, shape).words();
+            let words = deepest(LARGE, shape).words();
             restart(&words, rng, seen);
-            let mut keys: Vec<u32> = some_keys(rng, 512, u32::MAX - (1 << 28));
+            let mut keys: Vec<u32> = some_keys(rng, LARGE_KEYS, u32::MAX - (1 << 28));
             keys.iter_mut().for_each(|key| *key += 1 << 28);
             for weights in [Weights::Red, Weights::Heavy] {
-                let saved = restart(&grown(rng, MOST_SLOTS, &keys, 255, shape, weights).words(), rng, seen);
+                let saved = restart(&grown(rng, LARGE, &keys, 255, shape, weights).words(), rng, seen);
                 longest = longest.max(saved.len());
             }
         }
         for keys in [0, 1] {
             let keys = some_keys(rng, keys, u32::MAX);
-            restart(&grown(rng, MOST_SLOTS, &keys, 0, Shape::Any, Weights::Red).words(), rng, seen);
+            restart(&grown(rng, LARGE, &keys, 0, Shape::Any, Weights::Red).words(), rng, seen);
         }
+    });
+    println!("compared forms of up to {longest} bytes");
+}
+
+/// The same of the most slots: 8,192 keys.
+#[test]
+fn largest_pools_over_a_restart() {
+    let mut longest = 0;
+    roomy(|| {
+        seeded("restarts of 16,383 slots", 19_000, 1, |rng, seen| {
+            let lift = 1 << 28;
+            let keys: Vec<u32> = some_keys(rng, MOST_KEYS, u32::MAX - lift).into_iter().map(|key| key + lift).collect();
+            for shape in shared(SHAPES) {
+                restart(&deepest(MOST_SLOTS, shape).words(), rng, seen);
+                let weights = rng.pick(&[Weights::Red, Weights::Heavy]);
+                longest = longest.max(restart(&grown(rng, MOST_SLOTS, &keys, 255, shape, weights).words(), rng, seen).len());
+            }
+            for keys in [0, 1] {
+                let keys = some_keys(rng, keys, u32::MAX);
+                restart(&grown(rng, MOST_SLOTS, &keys, 0, Shape::Any, Weights::Red).words(), rng, seen);
+            }
+            restart(&lived_in(rng, MOST_SLOTS), rng, seen);
+        });
     });
     println!("compared forms of up to {longest} bytes");
 }
@@ -310,8 +334,8 @@ fn written(numbers: &[u32]) -> Vec<u8> {
 /// Good forms that are short enough to try everything with.
 fn patients(rng: &mut Rng) -> Vec<Vec<u8>> {
     let mut sets = damage::patients(rng);
-    sets.push(Set::prepared(MOST_SLOTS));
-    for (count, slots) in [(1, 1), (2, 128), (3, MOST_SLOTS)] {
+    sets.extend([LARGE, MOST_SLOTS].map(Set::prepared));
+    for (count, slots) in [(1, 1), (2, 128), (3, LARGE)] {
         for weights in [Weights::Light, Weights::Heavy] {
             let mut keys: Vec<u32> = LENGTHS.to_vec();
             rng.shuffle(&mut keys);
@@ -326,8 +350,10 @@ fn patients(rng: &mut Rng) -> Vec<Vec<u8>> {
 
 /// Values that tell, in place of a number: limits and their neighbours, and what the form holds anyway.
 fn telling(numbers: &[u32], own: u32) -> Vec<u32> {
-    let mut values = vec![0, 1, 2, 3, 4, 5, 127, 128, 509, 510, 511, 512, 513, 1022, 1023, 1024, 1 << 16, 1 << 31, u32::MAX - 1, u32::MAX];
-    values.extend([own.wrapping_sub(2), own.wrapping_sub(1), own.wrapping_add(1), own.wrapping_add(2), own ^ 1, own ^ 1 << 31]);
+    let mut values = vec![0, 1, 2, 3, 4, 5, 127, 128, 509, 510, 511, 512, 513, 1022, 1023, 1024, 16_382, 16_383, 16_384];
+    values.extend([1 << 16, 1 << 31, u32::MAX - 1, u32::MAX]);
+    values.extend([own.wrapping_sub(2), own.wrapping_sub(1), own.wrapping_add(1), own.wrapping_add(2)]);
+    values.extend([0, 14, 16, 31].map(|bit| own ^ 1 << bit));
     values.extend(numbers);
     values.sort_unstable();
     values.dedup();
@@ -467,7 +493,7 @@ fn nudged(rng: &mut Rng, numbers: &mut Vec<u32>) {
         2 => numbers[at + 1] = numbers[at + 1].wrapping_add(rng.pick(&[1, u32::MAX])),
         3 => numbers[at + 1] = numbers[2 * rng.below(nodes) + 3].wrapping_add(rng.pick(&[0, 1, u32::MAX])),
         4 => numbers[1] = numbers[1].wrapping_add(rng.pick(&[1, 2, u32::MAX, u32::MAX - 1])),
-        5 => numbers[0] = rng.pick(&[0, numbers[1].wrapping_sub(1), numbers[1], 1023, 1024, u32::MAX]),
+        5 => numbers[0] = rng.pick(&[0, numbers[1].wrapping_sub(1), numbers[1], 1023, 1024, 16_383, 16_384, u32::MAX]),
         // All leaves heavier or lighter: the sums stay equal.
         6 | 7 => {
             let by = rng.pick(&[2, 2, u32::MAX - 1, 1 << 9]);
@@ -545,10 +571,16 @@ fn nearly_good_forms() {
             good += u64::from(examine(&nearly_good(rng, slots), seen));
         }
         for _ in 0..10 {
-            good += u64::from(examine(&nearly_good(rng, MOST_SLOTS), seen));
+            good += u64::from(examine(&nearly_good(rng, LARGE), seen));
         }
     });
-    println!("compared nearly good forms: {good} are good; refused by cause: {:?}", seen.causes);
+    let mut large = 0;
+    roomy(|| {
+        seeded("nearly good forms of 16,383 slots", 16_900, 1, |rng, seen| {
+            shared(0..60).for_each(|_| large += u64::from(examine(&nearly_good(rng, MOST_SLOTS), seen)));
+        })
+    });
+    println!("compared nearly good forms: {good} are good; refused by cause: {:?}; of 16,383 slots {large}", seen.causes);
     assert!(share() > 1 || good > 1000 && seen.causes.iter().all(|&times| times > 10));
 }
 

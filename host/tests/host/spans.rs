@@ -3,9 +3,10 @@
 
 use crate::ledger::held;
 use crate::pair::{library_batch, same_batch, Pair, Seen};
-use crate::pools::{deepest, deepest_from, grown, some_keys, Shape, SHAPES, WEIGHTS};
-use crate::random::{command, compared, near, share, span, Mix, MIXES, SMALL};
+use crate::pools::{deepest, deepest_from, grown, some_keys, Shape, Weights, LARGE, LARGE_KEYS, MOST_KEYS, SHAPES, WEIGHTS};
+use crate::random::{command, compared, near, share, shared, span, Mix, MIXES, SMALL};
 use crate::rng::Rng;
+use crate::threads::roomy;
 use crate::twin::{Answer, Call, Command, Set, MOST_SLOTS};
 use crate::worked::after_p1;
 use std::collections::BTreeSet;
@@ -296,16 +297,16 @@ fn pools_that_were_lived_in() {
 
 /// Spans of none, one, some and all keys, at either end and in the middle of pools of 1,023 slots.
 #[test]
-fn spans_in_the_largest_pools() {
+fn spans_in_large_pools() {
     compared("spans in pools of 1,023 slots", 62_000, 2, |rng, seen| {
-        let keys = some_keys(rng, 512, LAST);
+        let keys = some_keys(rng, LARGE_KEYS, LAST);
         let anywhere = |rng: &mut Rng| {
             SHAPES.map(|shape| {
                 let (level, weights) = (rng.pick(&[1, 9, 255]), rng.pick(&WEIGHTS));
-                grown(rng, MOST_SLOTS, &keys, level, shape, weights)
+                grown(rng, LARGE, &keys, level, shape, weights)
             })
         };
-        let deep = [deepest(MOST_SLOTS, Shape::ChainLeft), deepest_from(LAST - 511, MOST_SLOTS, Shape::ChainRight)];
+        let deep = [deepest(LARGE, Shape::ChainLeft), deepest_from(LAST - 511, LARGE, Shape::ChainRight)];
         for set in anywhere(rng).into_iter().chain(deep) {
             let pair = Pair::holding(set);
             let keys = held(&pair.words);
@@ -318,6 +319,32 @@ fn spans_in_the_largest_pools() {
             let pair = deleted(&pair, keys[300].saturating_add(1), keys[40], seen);
             assert_eq!(deleted(&pair, 0, LAST, seen).header()[..3], [0, pair.words[0], 0]);
         }
+    });
+}
+
+/// The same in pools of the most slots.
+#[test]
+fn spans_in_the_largest_pools() {
+    roomy(|| {
+        compared("spans in pools of 16,383 slots", 63_000, 2, |rng, seen| {
+            let keys = some_keys(rng, MOST_KEYS, LAST);
+            let anywhere = SHAPES.map(|shape| {
+                let (level, weights) = (rng.pick(&[1, 14, 255]), rng.pick(&WEIGHTS));
+                grown(rng, MOST_SLOTS, &keys, level, shape, weights)
+            });
+            let highest = deepest_from(LAST - (MOST_KEYS as u32 - 1), MOST_SLOTS, Shape::ChainRight);
+            for set in shared([highest].into_iter().chain(anywhere)) {
+                let pair = Pair::holding(set);
+                let keys = held(&pair.words);
+                let last = MOST_KEYS - 1;
+                all_ends(&pair.words, &near(&[0, 1, MOST_KEYS / 2, last - 1, last].map(|i| keys[i])));
+                for (from, to) in [(0, 0), (last - 200, last), (MOST_KEYS / 2, MOST_KEYS / 2 + 20)] {
+                    deleted(&pair, keys[from], keys[to], seen);
+                }
+            }
+            let pair = Pair::holding(grown(rng, MOST_SLOTS, &keys, 14, Shape::Halves, Weights::Light));
+            assert_eq!(deleted(&pair, 0, LAST, seen).header()[..3], [0, pair.words[0], 0]);
+        });
     });
 }
 

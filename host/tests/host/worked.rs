@@ -1,8 +1,10 @@
 //! The cases that document 01 works by hand, those of DESIGN.md, and further ones for kinds that those leave out; the
-//! saved forms of some of them; 02's leaf of weight 9.
+//! saved forms of some of them; 02's leaf of weight 9, and its largest figures.
 
-use crate::pair::{library_batch, overweight, same_batch, same_load, same_on, same_save, Lent, Pair};
-use crate::twin::{self, edge, inner, leaf, Command, Edge, Set};
+use crate::pair::{library_batch, overweight, same_batch, same_call, same_load, same_on, same_save, Lent, Pair};
+use crate::pools::{deepest_and_heavy, Shape};
+use crate::threads::roomy;
+use crate::twin::{self, edge, inner, leaf, Call, Command, Edge, Set};
 use chromatic::raw;
 use Command::{Delete, Insert, Search, Settle, Step};
 
@@ -268,6 +270,28 @@ fn kind_6_with_both_children_overweighted_and_at_a_red_v() {
     assert_eq!((pair.slot(4)[3], pair.slot(5)[3], pair.slot(6)[3]), (1, 8, 8));
 }
 
+/// Every slot counts, the last too: there alone a step is allowed.
+#[test]
+fn the_last_slot() {
+    for slots in [3, 127, 1023, 1024, 16_383] {
+        let last = slots as u32;
+        let tree = edge(1, inner(last, 10, edge(2, leaf(1, 10)), edge(2, leaf(2, 20))));
+        let pair = Pair::holding(Set { slots, tree: Some(tree), free: (3..last).rev().collect() });
+        for (command, answer) in [
+            (Settle(9), (0, 1)),
+            (Settle(0), (12, 0)),
+            (Step(last, 6), (0, 6)),
+            (Step(last, 1), (10, 0)),
+            (Step(last + 1, 6), (8, 0)),
+            (Step(last | 1 << 14, 6), (8, 0)),
+            (Step(last | 1 << 16, 6), (8, 0)),
+            (Delete(10), (0, 1)),
+        ] {
+            assert_eq!(pair.clone().run(command), answer, "{command:?}, C = {slots}");
+        }
+    }
+}
+
 /// "Where the budget is just enough": settle looks for a step first and at the budget second.
 #[test]
 fn a_budget_that_is_just_enough() {
@@ -276,11 +300,61 @@ fn a_budget_that_is_just_enough() {
     assert_eq!(after_p2().run(Settle(0)), (0, 0));
 }
 
+/// Every call, around the lengths of 1,023 slots, which were the most, and of 16,383. With a sound pool of 16,383 slots in the words, whole,
+/// cut or with more after it, a bad length is refused all the same; 1 comes before every other code but 15.
+#[test]
+fn every_call_at_every_length() {
+    let after = [7, 7, 7];
+    let sound = [&after_p1(16_383).words[..], &[0; 70_000]].concat();
+    for len in (0..=20).chain(4093..=4104).chain(65_531..=65_545).chain([65_600, 131_076]) {
+        let good = len % 4 == 0 && (8..=65_536).contains(&len);
+        // Of another length it is not even sound: N or the free chain is wrong.
+        let code = if len == 65_536 {
+            0
+        } else if good {
+            2
+        } else {
+            1
+        };
+        let words = &sound[..len];
+        assert_eq!(same_on(words), code, "{len} words");
+        assert_eq!(same_batch(words, &[1, 10], 2), (code, 0), "{len} words");
+        assert_eq!(same_batch(words, &[9], 0), if good { (3, 0) } else { (1, 0) }, "{len} words");
+        assert_eq!(same_batch(words, &[1, 10], 1), if good { (4, 0) } else { (1, 0) }, "{len} words");
+        assert_eq!(same_save(words, 40).0 .0, code, "{len} words");
+        assert_eq!(same_save(words, 2).0, if code == 0 { (14, 0) } else { (code, 0) }, "{len} words");
+        assert_eq!(same_load(words, &[0x80, 0x80, 0x01, 0x00]).0, if good { (13, 4) } else { (1, 0) }, "{len} words");
+        assert_eq!(
+            same_load(words, &[0xFF, 0x7F, 0x00]).0,
+            if code == 0 {
+                (0, 0)
+            } else if good {
+                (14, 0)
+            } else {
+                (1, 0)
+            },
+            "{len} words"
+        );
+        for (call, wrong) in [
+            (Call::MaySend { notice: 1, resident: 0, limit: 1 }, Call::MaySend { notice: 0, resident: 0, limit: 1 }),
+            (Call::Clear { notice: 1 }, Call::Clear { notice: 0 }),
+        ] {
+            assert_eq!(same_call(words, call).0 .0, code, "{call:?} on {len} words");
+            assert_eq!(same_call(words, wrong).0, (15, 0), "{wrong:?} on {len} words");
+        }
+        let mut lent = Lent::of(&[words, &after].concat());
+        assert_eq!(raw::prepare(&mut lent.words()[..len]), u32::from(!good), "prepare {len} words");
+        let prepared = lent.back();
+        assert_eq!(prepared[len..], after);
+        assert!(good || prepared[..len] == *words, "a refused prepare of {len} words wrote");
+    }
+}
+
 #[test]
 fn lengths() {
-    for len in (0..=40).chain(4088..=4112).chain([8196, 65540]) {
+    for len in (0..=40).chain(4088..=4112).chain([8196]).chain(65_528..=65_545).chain([65_600, 131_076]) {
         let mut words = vec![7; len];
-        let good = len % 4 == 0 && (8..=4096).contains(&len);
+        let good = len % 4 == 0 && (8..=65_536).contains(&len);
         assert_eq!(raw::audit(&words), if good { 2 } else { 1 }, "audit of {len} words");
         assert_eq!(raw::report(&words, 1), 0);
         let refusal = library_batch(&mut words, &[9], &mut [0; 2]);
@@ -358,6 +432,8 @@ fn saved_forms() {
     assert_eq!(saved(&Pair::prepared(1), 2), [0x01, 0x00]);
     assert_eq!(saved(&Pair::prepared(NINE), 2), [0x09, 0x00]);
     assert_eq!(saved(&Pair::prepared(1023), 3), [0xFF, 0x07, 0x00]);
+    assert_eq!(saved(&Pair::prepared(1024), 3), [0x80, 0x08, 0x00]);
+    assert_eq!(saved(&Pair::prepared(16_383), 3), [0xFF, 0x7F, 0x00]);
     let mut one = Pair::prepared(1);
     one.insert_all(&[u32::MAX]);
     assert_eq!(saved(&one, 8), [0x01, 0x01, 0x02, 0xFF, 0xFF, 0xFF, 0xFF, 0x0F]);
@@ -426,19 +502,26 @@ fn order_of_refusals_of_load() {
     let p1 = saved(&after_p1(NINE), 16);
     let nine_with_a_red_root = [0x09, 0x01, 0x00, 0x0A];
     let two_thousand_slots = [0xD0, 0x0F, 0x00];
+    let too_many_slots = [0x80, 0x80, 0x01, 0x00]; // 16,384
     for (words, bytes, want) in [
         (39, &nine_with_a_red_root[..], (1, 0)),
         (39, &p1, (1, 0)),
         (0, &[], (1, 0)),
         (4, &p1, (1, 0)),
-        (4100, &p1, (1, 0)),
+        (65_540, &p1, (1, 0)),
+        (65_540, &too_many_slots, (1, 0)),
         (40, &nine_with_a_red_root, (13, 4)),
         (44, &nine_with_a_red_root, (13, 4)),
-        (44, &two_thousand_slots, (13, 3)),
+        (44, &too_many_slots, (13, 4)),
+        (65_536, &too_many_slots, (13, 4)),
+        (44, &two_thousand_slots, (14, 0)),
+        (8004, &two_thousand_slots, (0, 0)),
         (40, &[], (13, 0)),
         (44, &p1, (14, 0)),
         (36, &p1, (14, 0)),
         (4096, &p1, (14, 0)),
+        (4100, &p1, (14, 0)),
+        (65_536, &p1, (14, 0)),
         (40, &p1, (0, 7)),
     ] {
         assert_eq!(same_load(&vec![7; words], bytes).0, want, "{bytes:02X?} into {words} words");
@@ -469,6 +552,27 @@ pub fn two_leaves(weight: u32) -> Pair {
 
 /// The report of a tree with one leaf of weight 9 and 256 of weight 1: D is 8 times 512, the bound 1,540 times D.
 const ONE_LEAF_OF_WEIGHT_9: [u64; 7] = [513, 9, 8, 0, 4096, 0, 6_307_840];
+
+/// 02 (viii): "All figures of the report must be shown to fit 64 bits at the new size." The heaviest trees of the most slots: 8,192 leaves
+/// of weight 255, each with 16,382 nodes outside, and every inner edge red. In a chain the i-th inner node below the root has 2i nodes
+/// outside, and all but the last one a red child. In a complete tree the 2 to the power d inner nodes of depth d have 16,384 less
+/// 2 to the power 14 - d outside, and down to depth 11 two red children each.
+#[test]
+fn figures_above_32_bits() {
+    let d = 8192 * 254 * 16_382;
+    let whole = |r: u64, q: u64| [16_383, 255, 2_080_768, r, d, q, (3 * 16_383 + 1) * d + 2 * 16_383 * r + q];
+    let chain = whole(8189, (1..=8189).map(|i| 2 * i).sum());
+    let complete = whole(8188, (1..=11).map(|depth| (2 << depth) * (16_384 - (1 << (14 - depth)))).sum());
+    assert_eq!(chain, [16_383, 255, 2_080_768, 8189, 34_087_141_376, 67_067_910, 1_675_383_334_019_084]);
+    assert_eq!(complete, [16_383, 255, 2_080_768, 8188, 34_087_141_376, 133_791_744, 1_675_383_400_710_152]);
+    roomy(|| {
+        for (shape, want) in [(Shape::ChainLeft, chain), (Shape::ChainRight, chain), (Shape::Zigzag, chain), (Shape::Halves, complete)] {
+            let pair = Pair::holding(deepest_and_heavy(16_383, 255, shape));
+            assert_eq!(pair.report(), want, "{shape:?}");
+            pair.look();
+        }
+    });
+}
 
 /// Its third number after each step of settle, of which there are eight.
 const EIGHT_WORKED_OFF: [u64; 8] = [7, 6, 5, 4, 3, 2, 1, 0];

@@ -8,12 +8,15 @@ use sets::{all, pools, Set, Work};
 use std::hint::black_box;
 use std::time::{Duration, Instant};
 
-const SLOTS: usize = 1023;
-const LEAST_ROUNDS: usize = 50;
+/// The keys of each table, and the slots that they are in.
+const TABLES: [(usize, usize); 3] = [(64, 1023), (512, 1023), (8192, 16_383)];
 /// Commands of a mix: so many that the processor does not learn the ways down by heart, as it would from 256 that repeat.
 const MIX: usize = 64 * 256;
-/// How long one contestant is timed at a stretch, and how many stretches it gets, the others in between.
+/// How long one contestant is timed at a stretch and how often, both at least, but no longer than the longest; and how many stretches it gets,
+/// the others in between.
 const SPELL: Duration = Duration::from_millis(30);
+const ROUNDS: usize = 50;
+const LONGEST_SPELL: Duration = Duration::from_millis(200);
 const SPELLS: usize = 5;
 
 /// Xorshift.
@@ -46,11 +49,11 @@ fn clocked(set: &mut dyn Set, timed: impl Fn(&mut dyn Set) -> u64) -> f64 {
 /// Adds to `samples` for one spell what `sample` measures.
 fn spell(samples: &mut Vec<f64>, mut sample: impl FnMut() -> f64) {
     let started = Instant::now();
-    for round in 0.. {
-        if round >= LEAST_ROUNDS && started.elapsed() > SPELL {
+    for round in 1.. {
+        samples.push(sample());
+        if started.elapsed() > if round >= ROUNDS { SPELL } else { LONGEST_SPELL } {
             break;
         }
-        samples.push(sample());
     }
 }
 
@@ -83,22 +86,26 @@ struct Race<'a> {
 /// Times a unit of the race's work. All sets hold the same keys before and after: `home` inserts what may be gone.
 fn race(sets: &mut [Box<dyn Set>], home: &Work, race: Race) {
     let Race { what, before, work, units, net } = race;
-    let empty = Work::empty_call();
+    let empty = Work::empty_calls(work.calls());
     let again = |set: &mut dyn Set| {
         set.restore();
         set.run(before);
     };
-    // Paired: an audit's time depends on what the processor has learned of the pool, so each is taken off where it is
-    // spent, a moment after one like it was timed.
-    let sample = |set: &mut dyn Set| {
+    let sample = |set: &mut dyn Set, work: &Work| {
         again(set);
-        let calls = if net && set.pooled().is_some() { work.calls() as f64 * clocked(set, |set| set.run(&empty)) } else { 0.0 };
-        clocked(set, |set| set.run(work)) - calls
+        clocked(set, |set| set.run(work))
     };
     sets.iter_mut().for_each(|set| set.keep());
-    let mut samples = vec![vec![]; sets.len()];
+    let mut samples = vec![(vec![], vec![]); sets.len()];
     for _ in 0..SPELLS {
-        sets.iter_mut().zip(&mut samples).for_each(|(set, samples)| spell(samples, || sample(set.as_mut())));
+        for (set, (works, audits)) in sets.iter_mut().zip(&mut samples) {
+            // An audit's time depends on what the processor has learned of the pool, so as many of them are timed in turn with the work, after
+            // the same things. Each has its own lower quartile: that of the differences would be where the audits met something else.
+            spell(works, || {
+                audits.push(if net && set.pooled().is_some() { sample(set.as_mut(), &empty) } else { 0.0 });
+                sample(set.as_mut(), work)
+            });
+        }
     }
     let mut good = vec![];
     for set in sets.iter_mut() {
@@ -108,7 +115,10 @@ fn race(sets: &mut [Box<dyn Set>], home: &Work, race: Race) {
         set.run(home);
     }
     assert!(good.iter().all(|&g| g == good[0]), "{what}: the contestants do not agree: {good:?}");
-    let times: Vec<_> = sets.iter().zip(&mut samples).map(|(set, samples)| (set.name(), typical(samples) / units as f64)).collect();
+    let mut times = vec![];
+    for (set, (works, audits)) in sets.iter().zip(&mut samples) {
+        times.push((set.name(), (typical(works) - typical(audits)) / units as f64));
+    }
     line(what, &times);
 }
 
@@ -157,6 +167,18 @@ fn turns(rng: &mut Rng, keys: &[u32]) -> Vec<Command> {
     commands
 }
 
+/// A settle that takes so many steps, if there are as many.
+fn settle(budget: usize) -> Work {
+    Work::new(vec![Command::Settle { budget: u32::try_from(budget).unwrap_or(u32::MAX) }], 1)
+}
+
+/// The steps of a settle to the end.
+fn steps_to_the_end(words: &[u32]) -> usize {
+    let mut answer = [0; 2];
+    cousin::batch(&mut words.to_vec(), &[5, 0xFF, 0xFF, 0xFF, 0xFF, 0x0F], &mut answer);
+    answer[1] as usize
+}
+
 /// Up to 256 steps, one after the other, from a pool's first allowed one.
 fn steps_from(words: &[u32]) -> Vec<Command> {
     let mut words = words.to_vec();
@@ -173,29 +195,36 @@ fn steps_from(words: &[u32]) -> Vec<Command> {
     steps
 }
 
-fn table(count: usize) {
+fn table(count: usize, slots: usize) {
     let mut rng = Rng(88_172_645_463_325_252);
     let spread: Vec<u32> = (0..count as u32).map(|i| i * 997 + 13).collect();
     let keys = rng.shuffled(&spread);
-    let mut sets = all(SLOTS);
+    let mut sets = all(slots);
     let fill = Work::new(each(&keys, insert), 256);
     sets.iter_mut().for_each(|set| assert_eq!(set.run(&fill), count as u64, "{}", set.name()));
     let nothing = Work::new(vec![], 1);
-    println!("{count} keys in {SLOTS} slots, ns each");
+    println!("{count} keys in {slots} slots, ns each");
 
     let unsettled = sets[0].pooled().expect("the library is first").words.clone();
     let steps = Work::new(steps_from(&unsettled), 256);
-    let settle = Work::new(vec![Command::Settle { budget: u32::MAX }], 1);
     let what = format!("step, in a batch of {} (net)", steps.len());
     race(&mut sets[..2], &nothing, Race { what: &what, before: &nothing, work: &steps, units: steps.len(), net: true });
+    // A settle of the same steps; and where it does not end with them, the whole, for later steps scan further.
     let what = format!("settle, a step of {} with its scan (net)", steps.len());
-    race(&mut sets[..2], &nothing, Race { what: &what, before: &nothing, work: &settle, units: steps.len(), net: true });
+    race(&mut sets[..2], &nothing, Race { what: &what, before: &nothing, work: &settle(steps.len()), units: steps.len(), net: true });
+    let whole = steps_to_the_end(&unsettled);
+    if whole > steps.len() {
+        let what = format!("settle to the end, a step of {whole} with its scan (net)");
+        race(&mut sets[..2], &nothing, Race { what: &what, before: &nothing, work: &settle(whole), units: whole, net: true });
+    }
     sets[..2].iter_mut().for_each(|set| {
-        set.run(&settle);
+        set.run(&settle(whole));
     });
 
-    let half = &rng.shuffled(&keys)[..count / 2];
-    let (gone, back) = (Work::new(each(half, delete), 256), Work::new(each(half, insert), 256));
+    // One batch of them: the audits of more would meet other trees than those that are taken off.
+    let moved = &rng.shuffled(&keys)[..(count / 2).min(256)];
+    let share = if 2 * moved.len() == count { "half".to_string() } else { moved.len().to_string() };
+    let (gone, back) = (Work::new(each(moved, delete), 256), Work::new(each(moved, insert), 256));
     let some: Vec<u32> = (0..MIX).map(|_| keys[rng.below(count)]).collect();
     let searches = Work::new(each(&some, search), 256);
     race(
@@ -203,8 +232,10 @@ fn table(count: usize) {
         &back,
         Race { what: "search, in a batch of 256 (net)", before: &nothing, work: &searches, units: searches.len(), net: true },
     );
-    race(&mut sets, &back, Race { what: "insert, half of the keys (net)", before: &gone, work: &back, units: back.len(), net: true });
-    race(&mut sets, &back, Race { what: "delete, half of the keys (net)", before: &back, work: &gone, units: gone.len(), net: true });
+    let what = format!("insert, {share} of the keys (net)");
+    race(&mut sets, &back, Race { what: &what, before: &gone, work: &back, units: back.len(), net: true });
+    let what = format!("delete, {share} of the keys (net)");
+    race(&mut sets, &back, Race { what: &what, before: &back, work: &gone, units: gone.len(), net: true });
     if count > SPANNED {
         span_rows(&mut sets[..3], &mut rng, &spread);
     }
@@ -217,8 +248,8 @@ fn table(count: usize) {
     }
     race_pools("audit, a call", &mut sets, |set| set.pooled().map_or(0, |p| u64::from((p.audit)(black_box(&p.words)))));
     race_pools("report's seventh number, a call", &mut sets, |set| set.pooled().map_or(0, |p| (p.report)(black_box(&p.words), 7)));
-    saved_rows(&keys);
-    ledger_rows(&mut rng, count);
+    saved_rows(&keys, slots);
+    ledger_rows(&mut rng, count, slots);
 }
 
 /// Keys that the spans of a row have together, at most, and those that each of them has.
@@ -257,20 +288,20 @@ fn span_rows(sets: &mut [Box<dyn Set>], rng: &mut Rng, keys: &[u32]) {
 }
 
 /// Both pools with these keys, inserted in this order and settled.
-fn settled_pools(keys: &[u32]) -> Vec<Box<dyn Set>> {
-    let mut sets = pools(SLOTS);
-    let (fill, settle) = (Work::new(each(keys, insert), 256), Work::new(vec![Command::Settle { budget: u32::MAX }], 1));
+fn settled_pools(keys: &[u32], slots: usize) -> Vec<Box<dyn Set>> {
+    let mut sets = pools(slots);
+    let (fill, settle) = (Work::new(each(keys, insert), 256), settle(usize::MAX));
     for set in sets.iter_mut() {
         assert_eq!(set.run(&fill), keys.len() as u64, "{}", set.name());
-        set.run(&settle);
+        assert_eq!(set.run(&settle), 1, "{}", set.name());
     }
     sets
 }
 
 /// Save and load, of as many keys as the table has, each key and router five bytes long.
-fn saved_rows(keys: &[u32]) {
+fn saved_rows(keys: &[u32], slots: usize) {
     let longest: Vec<u32> = keys.iter().map(|&key| key | 1 << 28).collect();
-    let mut sets = settled_pools(&longest);
+    let mut sets = settled_pools(&longest, slots);
     let bytes: Vec<u64> = sets.iter_mut().map(|set| set.save()).collect();
     race_pools(&format!("save, a call, {} bytes", bytes[0]), &mut sets, |set| set.save());
     race_pools(&format!("load, a call, {} bytes", bytes[0]), &mut sets, |set| set.load());
@@ -289,10 +320,10 @@ fn mark(notice: u32, resident: u32, attempt: u32) -> u32 {
     notice * 65_536 + resident * 8 + attempt
 }
 
-/// First attempts of twenty other notices, as many before as after.
+/// First attempts of twenty other notices, as many before as after, and of residents that differ.
 fn marks_of_others(count: usize) -> Vec<u32> {
     let notice = |i: u32| if i % 2 == 0 { NOTICE - 1 - i % 20 / 2 } else { NOTICE + 1 + i % 20 / 2 };
-    (0..count as u32).map(|i| mark(notice(i), i / 20 * 37, 1)).collect()
+    (0..count as u32).map(|i| mark(notice(i), i / 20 * 37 % 8192, 1)).collect()
 }
 
 /// A call of the ledger, by the name of its row, and what it must answer.
@@ -303,8 +334,8 @@ struct Asked<'a> {
 }
 
 /// Times each call, all told, on the pools of these keys as they are before it: neither call settles, and both change them.
-fn race_ledger(keys: &[u32], asked: &[Asked]) {
-    let mut sets = settled_pools(keys);
+fn race_ledger(keys: &[u32], slots: usize, asked: &[Asked]) {
+    let mut sets = settled_pools(keys, slots);
     sets.iter_mut().for_each(|set| set.keep());
     for Asked { what, call, want } in asked {
         race_calls(&format!("{what}, a call"), &mut sets, |set| set.restore(), call);
@@ -316,16 +347,17 @@ fn race_ledger(keys: &[u32], asked: &[Asked]) {
 }
 
 /// May_send and clear_notice, of as many keys as the table has.
-fn ledger_rows(rng: &mut Rng, count: usize) {
+fn ledger_rows(rng: &mut Rng, count: usize, slots: usize) {
     let mut among_others = |mine: Vec<u32>, most: usize| {
         let others = marks_of_others(most - mine.len());
         rng.shuffled(&[mine, others].concat())
     };
     let marked = |resident, attempts| (1..=attempts).map(move |attempt| mark(NOTICE, resident, attempt));
-    // One key fewer than the table has: 512 fill the pool, which then takes no mark.
+    // One key fewer than the table has: 512 keys fill 1,023 slots, which then take no mark, and 8,192 fill 16,383.
     let keys = among_others(marked(ONE_LEFT, 6).chain(marked(ALL_USED, 7)).collect(), count - 1);
     race_ledger(
         &keys,
+        slots,
         &[
             Asked { what: "may_send, a new mark", call: &|set| set.may_send(NOTICE, FRESH, 1), want: 1 },
             Asked { what: "may_send, limit 7, six marked", call: &|set| set.may_send(NOTICE, ONE_LEFT, 7), want: 7 },
@@ -335,18 +367,20 @@ fn ledger_rows(rng: &mut Rng, count: usize) {
     for marks in [0, 1, 16, 256].into_iter().filter(|&marks| marks < count) {
         let keys = among_others((0..marks as u32).map(|i| mark(NOTICE, 31 * i, 1)).collect(), count);
         let what = format!("clear_notice, {marks} of {count} keys");
-        race_ledger(&keys, &[Asked { what: &what, call: &|set| set.clear_notice(NOTICE), want: marks as u64 }]);
+        race_ledger(&keys, slots, &[Asked { what: &what, call: &|set| set.clear_notice(NOTICE), want: marks as u64 }]);
     }
 }
+
+const CHAINED_SLOTS: u32 = 1023;
 
 /// The saved form of 512 keys in 1,023 slots: half of them in a chain to the left below the root, half in one to the right, every inner
 /// edge red, every leaf of weight `level`. From the root it is 256 edges to the first leaf and to the last. The root is slot 1, and kind 1's
 /// condition holds there.
 fn two_chains(level: u32) -> Vec<u8> {
-    const KEYS: u32 = 512;
+    const KEYS: u32 = CHAINED_SLOTS.div_ceil(2);
     const HALF: u32 = KEYS / 2;
     let (red, leaf) = (1, 2 * level);
-    let mut numbers = vec![SLOTS as u32, 2 * KEYS - 1, 3, HALF - 1];
+    let mut numbers = vec![CHAINED_SLOTS, 2 * KEYS - 1, 3, HALF - 1];
     (0..HALF - 1).rev().for_each(|router| numbers.extend([red, router]));
     (0..HALF).for_each(|key| numbers.extend([leaf, key]));
     (HALF..KEYS - 1).for_each(|key| numbers.extend([red, key, leaf, key]));
@@ -368,21 +402,20 @@ const MOST_LEVEL: u32 = 255;
 /// What asks for L, far from every leaf but two: kind 1 at the root, in a step and in settle's scan, and the report; and beside them what
 /// does not ask for it.
 fn level_rows() {
-    let mut sets = pools(SLOTS);
+    let mut sets = pools(CHAINED_SLOTS as usize);
     let saved = two_chains(MOST_LEVEL);
     for set in sets.iter_mut() {
-        assert_eq!(set.load_from(&saved), SLOTS as u64, "{}", set.name());
+        assert_eq!(set.load_from(&saved), CHAINED_SLOTS.into(), "{}", set.name());
         assert_eq!(set.pooled().map(|p| (p.report)(&p.words, 2)), Some(MOST_LEVEL.into()), "{}", set.name());
     }
-    println!("512 keys in {SLOTS} slots, in two chains, L = {MOST_LEVEL}, ns each");
+    println!("512 keys in {CHAINED_SLOTS} slots, in two chains, L = {MOST_LEVEL}, ns each");
     let nothing = Work::new(vec![], 1);
     for (what, kind) in [("step, kind 1 at the root, code 11 (net)", Kind::One), ("step, kind 2 at the root, code 10 (net)", Kind::Two)] {
         let steps = Work::new(vec![Command::Step { slot: 1, kind }; 256], 256);
         race(&mut sets, &nothing, Race { what, before: &nothing, work: &steps, units: steps.len(), net: true });
     }
-    let settle = Work::new(vec![Command::Settle { budget: 256 }], 1);
     let what = "settle, a step of 256 with its scan (net)";
-    race(&mut sets, &nothing, Race { what, before: &nothing, work: &settle, units: 256, net: true });
+    race(&mut sets, &nothing, Race { what, before: &nothing, work: &settle(256), units: 256, net: true });
     race_pools("report's first number, a call", &mut sets, |set| set.pooled().map_or(0, |p| (p.report)(black_box(&p.words), 1)));
     race_pools("report's second number, a call", &mut sets, |set| set.pooled().map_or(0, |p| (p.report)(black_box(&p.words), 2)));
 }
@@ -390,7 +423,8 @@ fn level_rows() {
 fn main() {
     println!("in brackets: the library's time divided by that contestant's");
     println!("net: the audit that begins every call of a pool is taken off; all told: it is counted");
-    table(64);
-    table(512);
+    for (keys, slots) in TABLES {
+        table(keys, slots);
+    }
     level_rows();
 }

@@ -22,9 +22,9 @@ impl Work {
         Work { commands, operations, keys, batches }
     }
 
-    /// One call without commands: for a pool, the audit.
-    pub fn empty_call() -> Work {
-        Work { commands: vec![], operations: vec![], keys: vec![], batches: vec![(vec![], 0)] }
+    /// So many calls without commands: for a pool, audits.
+    pub fn empty_calls(calls: usize) -> Work {
+        Work { commands: vec![], operations: vec![], keys: vec![], batches: vec![(vec![], 0); calls] }
     }
 
     pub fn len(&self) -> usize {

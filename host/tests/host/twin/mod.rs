@@ -14,8 +14,8 @@ pub use bytes::{commands, write_number, Command};
 pub use ledger::{call, Call, Parts, LIMITS, NOTICES, RESIDENTS};
 pub use saved::{load, save};
 
-/// "Slots are numbered from 1", "C from 1 to 1,023".
-pub const MOST_SLOTS: usize = 1023;
+/// 01: "Slots are numbered from 1", "C from 1 to 1,023"; 02 (viii): "Raise C to 16,383."
+pub const MOST_SLOTS: usize = 16_383;
 const FREE: u32 = 4_294_967_295;
 
 /// A code and a number.
@@ -83,14 +83,21 @@ impl Edge {
 
     /// The sides that lead to a slot.
     pub fn path_to(&self, slot: u32) -> Option<Vec<usize>> {
-        if self.to.slot == slot {
-            return Some(vec![]);
-        }
-        self.to.edges().iter().enumerate().find_map(|(side, e)| {
-            let mut path = e.path_to(slot)?;
-            path.insert(0, side);
-            Some(path)
-        })
+        let mut path = vec![];
+        self.leads_to(slot, &mut path).then_some(path)
+    }
+
+    /// Whether the slot is here or below; then the sides are added to the path.
+    fn leads_to(&self, slot: u32, path: &mut Vec<usize>) -> bool {
+        self.to.slot == slot
+            || self.to.edges().iter().enumerate().any(|(side, e)| {
+                path.push(side);
+                let found = e.leads_to(slot, path);
+                if !found {
+                    path.pop();
+                }
+                found
+            })
     }
 
     /// The sides that search takes.

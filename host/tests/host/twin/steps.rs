@@ -187,10 +187,25 @@ impl Set {
         found
     }
 
-    /// "the lowest slot with an allowed kind, and there the lowest kind, until none is left or the budget is spent"
+    /// "the lowest slot with an allowed kind, and there the lowest kind". Slots above one that was found are not judged.
+    fn lowest_allowed(&self) -> Option<(u32, u32)> {
+        let mut lowest = None;
+        let mut ahead: Vec<&Edge> = self.tree.iter().collect();
+        while let Some(e) = ahead.pop() {
+            let slot = e.to.slot;
+            if e.to.below.is_some() && lowest.map_or(true, |(found, _)| slot < found) {
+                let kind = (1..=8).find(|&kind| self.judge(e, kind) == 0);
+                lowest = kind.map(|kind| (slot, kind)).or(lowest);
+            }
+            ahead.extend(e.to.edges());
+        }
+        lowest
+    }
+
+    /// ".. until none is left or the budget is spent"
     pub fn settle(&mut self, budget: u32) -> Answer {
         let mut trees_after_the_first = 0;
-        while let Some((slot, kind)) = self.allowed().into_iter().min() {
+        while let Some((slot, kind)) = self.lowest_allowed() {
             if trees_after_the_first == budget {
                 return (12, trees_after_the_first);
             }
