@@ -157,7 +157,7 @@ fn kind_1_at_the_root_of_the_largest_pool() {
     }
 }
 
-/// 02 (viii): "255 remains enough for L." At L = 255 a step of kind 6, 7 or 8 is allowed in every tree of the most slots, and L stays.
+/// 02 (viii): "255 remains enough for L." At L = 255 a step of kind 6, 7 or 8 is allowed in every tree of the most slots; L stays at most 255.
 #[test]
 fn l_of_255_in_the_largest_pools() {
     let heavy = 6..=8;
