@@ -1,12 +1,13 @@
--- 02 (viii) as a host sees it. "Raise C to 16,383. [..] Code 1 follows the new limit": the exported audit gives 1 exactly where the pool has 4 + 4C words
--- for no C from 1 to 16,383 (`code-1-exactly`); every other call asks the same of the length (`length-exactly` in format's Shown.antt). Of each
--- such C prepare answers 0, and its pool passes the audit (`prepared-passes`). "All figures of the report must be shown to fit 64 bits at the new size": each number
--- that the exported report returns is below 2 ^ 64, for any words (`number-fits`). "255 remains enough for L": the fourth word of a pool for which
--- the audit gives 0 is at most 255 (`level-low-returned`), and so is that of a pool that was loaded, from whatever bytes (`level-low-after-load`); over
--- sequences of calls, and that no tree gets stuck there: crate demands' Levels.antt and StepsLeft.antt. "A saved form written before reads as it did":
--- into a pool of a size that was known then, the exported load returns the word and leaves the words of then, on any bytes, but for a form of a larger
--- C, for which it returned 13 and the count of bytes, and returns 14 now; both leave the pool (`load-returned-as-before`). "An installation not yet
--- updated refuses a saved C above 1,023 with 13 and writes nothing", whatever follows that C (`before-returned`). Of then: saved's Older. Assumes nothing.
+-- 02 (viii) as a host sees it. "Raise C to 16,383. [..] Code 1 follows the new limit": the exported audit gives 1 exactly where the pool has
+-- 4 + 4C words for no C from 1 to 16,383 (`code-1-exactly`); every other call asks the same of the length (`length-exactly` in format's
+-- Shown.antt). Of each such C prepare answers 0, and its pool passes the audit (`prepared-passes`). "All figures of the report must be shown to
+-- fit 64 bits at the new size": each number that the exported report returns is below 2 ^ 64, for any words (`number-fits`). "255 remains enough
+-- for L": the fourth word of a pool for which the audit gives 0 is at most 255 (`level-low-returned`), and so is that of a pool that was loaded,
+-- from whatever bytes (`level-low-after-load`); over sequences of calls, and that no tree gets stuck there: demands' Levels and StepsLeft.
+-- "A saved form written before reads as it did": into a pool of a size that was known then, the exported load returns the word and leaves the
+-- words of then, on any bytes, but for a form of a larger C, for which it returned 13 and the count of bytes, and returns 14 now; both leave the
+-- pool (`load-returned-as-before`). "An installation not yet updated refuses a saved C above 1,023 with 13 and writes nothing", whatever follows
+-- that C (`before-returned`). The load of then: saved's Older. Assumes nothing.
 use mathlib.Core.Path.{_≡_, refl, ap, sym, _∙_}
 use mathlib.Core.Logic.{_≢_, _↔_, _⊎_, inl, inr}
 use mathlib.Core.Bool.{Bool, true, false, false≢true}
@@ -68,7 +69,11 @@ pub level-low-after-load : (p bytes : List ℕ) → Bytes bytes → {n : ℕ} �
 unfolding headerOf
 level-low-after-load p bytes b {n} done = let L = load-says p bytes n b done in omega (arith, shows-level (L .shows), sound-level (L .stored .sound))
 
--- What the exported load returned and left then, and does now, where the bytes are the form of a larger C.
+-- What the exported load returned and left then, and does now: the same; or, where the bytes are the form of a larger C, a refusal each.
+pub record SameReturned (p bytes : List ℕ) : Type 0 where
+  pub same-word : returnedAnswer ((loadCall p bytes) .answer) ≡ returnedAnswer ((loadBefore p bytes) .answer)
+  pub same-left : (loadCall p bytes) .left ≡ (loadBefore p bytes) .left
+
 pub record LargerReturned (p bytes : List ℕ) : Type 0 where
   pub then-returned : returnedAnswer ((loadBefore p bytes) .answer) ≡ 13 * codeUnit + placeWord (length bytes)
   pub then-kept : (loadBefore p bytes) .left ≡ p
@@ -76,15 +81,12 @@ pub record LargerReturned (p bytes : List ℕ) : Type 0 where
   pub now-kept : (loadCall p bytes) .left ≡ p
 
 module _ (p bytes : List ℕ) (long : lengthGood p ≡ true) (known : slotsIn p ≤ mostBefore) where
-  pub load-returned-as-before : ((returnedAnswer ((loadCall p bytes) .answer) ≡ returnedAnswer ((loadBefore p bytes) .answer)) × ((loadCall p bytes) .left ≡ (loadBefore p bytes) .left))
-      ⊎ LargerReturned p bytes
+  pub load-returned-as-before : SameReturned p bytes ⊎ LargerReturned p bytes
   unfolding returnedAnswer inOneWord
   load-returned-as-before = go (load-as-before p bytes long known)
     where
-      go : (loadCall p bytes ≡ loadBefore p bytes) ⊎ LargerForm p bytes
-          → ((returnedAnswer ((loadCall p bytes) .answer) ≡ returnedAnswer ((loadBefore p bytes) .answer)) × ((loadCall p bytes) .left ≡ (loadBefore p bytes) .left))
-          ⊎ LargerReturned p bytes
-      go (inl e) = inl (ap (λ (c : Call). returnedAnswer (c .answer)) e, ap (λ (c : Call). c .left) e)
+      go : (loadCall p bytes ≡ loadBefore p bytes) ⊎ LargerForm p bytes → SameReturned p bytes ⊎ LargerReturned p bytes
+      go (inl e) = inl (record { same-word = ap (λ (c : Call). returnedAnswer (c .answer)) e; same-left = ap (λ (c : Call). c .left) e })
       go (inr f) = inr (record {
         then-returned = rw (f .then-13);
         then-kept = rw (f .then-13);

@@ -1,8 +1,9 @@
 -- 02 (viii): "A saved form written before reads as it did. An installation not yet updated refuses a saved C above 1,023 with 13 and writes
 -- nothing." A reader with a lower limit takes exactly the bytes that name a C within it, and makes the same State of them (`up-to-exactly`).
 -- So an installation not yet updated refuses bytes that begin with a larger C with 13, whatever follows, and leaves every word
--- (`before-refuses`), the count of bytes being beside it where today's reader takes them (`before-refuses-form`); and today's load, into a pool of a size that it knew, answers and leaves what its load did, but for such a form, which
--- gets 14 now (`load-as-before`; what it took is taken, `read-as-before`).
+-- (`before-refuses`), the count of bytes being beside it where today's reader takes them (`before-refuses-form`); and today's load, into a
+-- pool of a size that it knew, answers and leaves what its load did, but for such a form, which gets 14 now (`load-as-before`; what it took
+-- is taken, `read-as-before`).
 -- Why: the limit is asked in one place of the reader, of C alone. Assumes nothing.
 use mathlib.Core.Path.{_≡_, refl, ap, sym, _∙_}
 use mathlib.Core.Logic.{_↔_, _⊎_, inl, inr}

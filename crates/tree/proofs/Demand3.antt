@@ -122,14 +122,17 @@ some-accepted S h = go (S .top) refl
     go (full t) e = let i = sound-held S t h e in tree t e (step-until-red-black t (i .proper .chromatic) (i .low) (sound-small S t h e))
 
 -- 02 (viii): "255 remains enough for L": where kind 1 at the root is refused for it, kind 6 is accepted somewhere.
-pub lighten-accepted : (S : State) → Sound S → levelTop (S .top) ≡ mostLevel → (s : ℕ) × ((step s (kindNumber Lighten) S) .answer ≡ Done (kindNumber Lighten))
+abbrev pub AcceptedAs : Kind → State → Type 0
+AcceptedAs k S = (s : ℕ) × ((step s (kindNumber k) S) .answer ≡ Done (kindNumber k))
+
+pub lighten-accepted : (S : State) → Sound S → levelTop (S .top) ≡ mostLevel → AcceptedAs Lighten S
 unfolding levelTop atLimit
 lighten-accepted S h high = go (S .top) refl
   where
-    tree : (t : Tree) → S .top ≡ full t → CanMake Lighten 1 t → (s : ℕ) × ((step s (kindNumber Lighten) S) .answer ≡ Done (kindNumber Lighten))
+    tree : (t : Tree) → S .top ≡ full t → CanMake Lighten 1 t → AcceptedAs Lighten S
     tree t e (can-make {s} g) = (s, made-accepted S t h e g refl)
 
-    go : (T : Top) → S .top ≡ T → (s : ℕ) × ((step s (kindNumber Lighten) S) .answer ≡ Done (kindNumber Lighten))
+    go : (T : Top) → S .top ≡ T → AcceptedAs Lighten S
     go empty e = absurd (omega (arith, ap levelTop e))
     go (full t) e =
         let i = sound-held S t h e in
