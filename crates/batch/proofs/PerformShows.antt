@@ -19,7 +19,7 @@ use Rattle.spans.proofs.NextShows.{next_shows}
 use Rattle.spans.proofs.CountShows.{count_shows}
 use Rattle.spans.proofs.SpanShows.{span_shows}
 use Rattle.steps.proofs.StepShows.{step_shows}
-use Rattle.settle.proofs.SettleShows.{settle_shows}
+use Rattle.steps.proofs.SettleShows.{settle_shows}
 use Rattle.batch.specs.Operated.{operated, perform_on}
 
 operation_shows : (o : Operation) (a b : ℕ) {h : Header} {p : List ℕ} {S : State} → Sound S → Shows h p S → Does (operated o a b p h) (operation o a b S)

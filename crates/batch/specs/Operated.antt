@@ -11,8 +11,7 @@ use Rattle.encoding.specs.declared.Operation.TheVariants.{Search, Insert, Delete
 use Rattle.encoding.specs.declared.Command.{Command}
 use Rattle.updates.specs.Updating.{search_under, insert_under, delete_under}
 use Rattle.spans.specs.Spanning.{at_or_above, count_under, delete_span_under}
-use Rattle.steps.specs.Steps.{step_under}
-use Rattle.settle.specs.Settling.{settle_under}
+use Rattle.steps.specs.Steps.{step_under, settle_under}
 
 unfoldable pub operated : Operation → ℕ → ℕ → List ℕ → Header → Written
 operated Search a b p h = written p (search_under p h.root a) h

@@ -9,39 +9,14 @@ use commands::{Scanned, command_at, scan};
 use encoding::{Command, Operation, Reading};
 use format::{Header, Performed};
 use pool::audit;
-use settle::settle_under;
 use slots::{get_header, length_good, put_header, put_word};
 use spans::{at_or_above, count_under, delete_span_under};
-use steps::step_under;
+use steps::{settle_under, step_under};
 use tree::{Answer, Refusal};
 use updates::{delete_under, insert_under, search_under};
 
 // 01: "Each command fills two answer words, code and number".
 const ANSWER_WORDS: usize = 2;
-
-// A header in a place of its own, and what a command left in one. A function that is called, not compiled into the loop, takes a header
-// and hands one back in memory. With a place of its own for that the loop keeps its header in registers.
-fn apart(h: Header) -> Header
-    ensures { result ≡ h }
-{
-    Header {
-        root: h.root,
-        free: h.free,
-        nodes: h.nodes,
-        level: h.level,
-    }
-}
-
-fn handed_back(d: Performed) -> Performed
-    ensures { result ≡ d }
-{
-    let answer = d.answer;
-    let header = d.header;
-    Performed {
-        answer,
-        header: apart(header),
-    }
-}
 
 // One command, under the header that the commands before it left.
 fn perform(pool: &mut [u32], h: Header, c: Command) -> Performed
@@ -54,8 +29,8 @@ fn perform(pool: &mut [u32], h: Header, c: Command) -> Performed
             answer: search_under(pool, h.root, c.first),
             header: h,
         },
-        Operation::Insert => handed_back(insert_under(pool, apart(h), c.first)),
-        Operation::Delete => handed_back(delete_under(pool, apart(h), c.first)),
+        Operation::Insert => insert_under(pool, h, c.first),
+        Operation::Delete => delete_under(pool, h, c.first),
         Operation::Step => step_under(pool, h, c.first, c.second),
         Operation::Settle => settle_under(pool, h, c.first),
         Operation::AtOrAbove => Performed {
@@ -66,9 +41,7 @@ fn perform(pool: &mut [u32], h: Header, c: Command) -> Performed
             answer: count_under(pool, h.root, c.first, c.second),
             header: h,
         },
-        Operation::DeleteSpan => {
-            handed_back(delete_span_under(pool, apart(h), c.first, c.second))
-        }
+        Operation::DeleteSpan => delete_span_under(pool, h, c.first, c.second),
     }
 }
 

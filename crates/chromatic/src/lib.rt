@@ -11,7 +11,7 @@ ghost use Rattle.chromatic.specs.Exports.{number_at, in_one_word, returned, retu
 use ledger::{clear_notice, may_send};
 use load::load;
 use pool::{audit, prepare};
-use report::number_at;
+use report::report;
 use save::save;
 
 // 01: "The exported batch returns its code times 4,294,967,296 plus its number." So do save, load and the send limit's two.
@@ -56,7 +56,7 @@ pub extern "C" fn chromatic_audit(pool: &[u32]) -> u32
 pub extern "C" fn chromatic_report(pool: &[u32], index: u32) -> u64
     ensures number { result ≡ number_at pool.now index }
 {
-    number_at(pool, index)
+    report(pool).number(index)
 }
 
 #[unsafe(no_mangle)]

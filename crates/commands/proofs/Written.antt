@@ -31,8 +31,8 @@ use Rattle.commands.proofs.Running.{StandFrom, stand_none, stand_some, read_exac
 -- What is written is read.
 module _ (xs ys : List ℕ) where
   -- a number, with its place given by an equation
-  number_at_lem : (i v : ℕ) → i ≡ length xs → v < key_end → number (xs ++ (bytes_of v ++ ys)) i ≡ Read v (i + length (bytes_of v))
-  number_at_lem i v e h = rw (e, ← append_assoc) (number_reads xs ys v h)
+  number_at : (i v : ℕ) → i ≡ length xs → v < key_end → number (xs ++ (bytes_of v ++ ys)) i ≡ Read v (i + length (bytes_of v))
+  number_at i v e h = rw (e, ← append_assoc) (number_reads xs ys v h)
 
 bytes_some : (v : ℕ) → 0 < length (bytes_of v)
 unfolding bytes_of
@@ -49,10 +49,10 @@ module _ (xs ys : List ℕ) (o : Operation) (a b : ℕ) (ha : a < key_end) (hb :
   whole rest = xs ++ (ob ++ (ab ++ rest))
 
   read_operation : (rest : List ℕ) → number (whole rest) (length xs) ≡ Read (operation_number o) (length xs + length ob)
-  read_operation rest = number_at_lem xs (ab ++ rest) (length xs) (operation_number o) refl (omega (arith, operation_small o))
+  read_operation rest = number_at xs (ab ++ rest) (length xs) (operation_number o) refl (omega (arith, operation_small o))
 
   read_first : (rest : List ℕ) → number (whole rest) (length xs + length ob) ≡ Read a (length xs + length ob + length ab)
-  read_first rest = rw (← append_assoc xs ob (ab ++ rest)) (number_at_lem (xs ++ ob) rest (length xs + length ob) a (sym (length-append xs ob)) ha)
+  read_first rest = rw (← append_assoc xs ob (ab ++ rest)) (number_at (xs ++ ob) rest (length xs + length ob) a (sym (length-append xs ob)) ha)
 
   read_meant : (rest : List ℕ) → command_at (whole rest) (length xs) ≡ arguments_at (whole rest) o (length xs + length ob)
   read_meant rest = meant (whole rest) (length xs) (read_operation rest) (which_known o)
@@ -68,7 +68,7 @@ module _ (xs ys : List ℕ) (o : Operation) (a b : ℕ) (ha : a < key_end) (hb :
       let place : length (xs ++ (ob ++ ab)) ≡ length xs + length ob + length ab = length-append xs (ob ++ ab) ∙ omega (arith, length-append ob ab) in
       let form : (xs ++ (ob ++ ab)) ++ rest ≡ whole rest = append_assoc xs (ob ++ ab) rest ∙ ap (λ (l : List ℕ). xs ++ l) (append_assoc ob ab rest) in
       let last : number (whole rest) (length xs + length ob + length ab) ≡ Read b (length xs + length ob + length ab + length (bytes_of b)) =
-      rw (← form) (number_at_lem (xs ++ (ob ++ ab)) ys _ b (sym place) hb) in
+      rw (← form) (number_at (xs ++ (ob ++ ab)) ys _ b (sym place) hb) in
       read_meant rest ∙ two (whole rest) o (length xs + length ob) a _ n (read_first rest) ∙ rw last
 
 command_written : (xs ys : List ℕ) (c : Command) → Fits c → command_at (xs ++ (command_bytes c ++ ys)) (length xs) ≡ Next c (length xs + length (command_bytes c))

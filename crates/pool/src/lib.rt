@@ -1,17 +1,15 @@
 // Prepare and audit. Every function here takes any words: none has a `requires`.
-ghost use Rattle.std.specs.Prelude.{◌≡◌, true};
-ghost use Rattle.format.specs.Words.{slot_at};
-ghost use Rattle.format.specs.Audit.{is_slot, audited, audit_code};
+ghost use Rattle.std.specs.Prelude.{◌≡◌};
+ghost use Rattle.format.specs.Audit.{audited, audit_code};
 ghost use Rattle.pool.specs.Results.{prepare_code, prepared_words};
 ghost use Rattle.pool.specs.Standing.{allowance};
 ghost use Rattle.pool.specs.Walks.{FreeSays};
 ghost use Rattle.pool.specs.Visits.{leaf_walk, join_walk, tree_tour, top_tour, chain_tour};
-ghost use Rattle.pool.specs.Packed.{packed, InnerAt};
 
 use format::{Audited, Header, Slot};
 use slots::{
-    FREE_WEIGHT, SLOT_WORDS, free_slot, get_header, get_slot, is_slot, last_slot, length_good,
-    put_header, put_slot, slots_in,
+    FREE_WEIGHT, free_slot, get_header, get_slot, is_slot, last_slot, length_good, put_header,
+    put_slot, slots_in,
 };
 use tree::{Answer, MOST_LEVEL, Refusal};
 
@@ -102,78 +100,33 @@ pub fn join(w: u32, rest: u32, al: u32, bl: u32) -> Walk
     Walk::Whole(rest, sum as u32)
 }
 
-// A walk's answer in one word, which comes back in a register: BAD, or SUM_END for each node left over, and the sum, which is from 1 to below
-// SUM_END.
-const BAD: u64 = 0;
-
-const SUM_END: u64 = 512;
-
-fn packed(w: Walk) -> u64
-    ensures { result ≡ packed w }
-{
-    match w {
-        Walk::Bad => BAD,
-        Walk::Whole(rest, sum) => SUM_END * (rest as u64) + sum as u64,
-    }
-}
-
-// The words of a slot that is known to be one of the pool's: no further test.
-fn known_slot(pool: &[u32], s: u32) -> Slot
-    requires { is_slot pool.now s ≡ true }
-    ensures { result ≡ slot_at pool.now s }
-{
-    let i = SLOT_WORDS * (s as usize);
-    Slot {
-        key: pool[i],
-        left: pool[i + 1],
-        right: pool[i + 2],
-        weight: pool[i + 3],
-    }
-}
-
 // The tree at slot s, its keys from lo to below hi, at most `left` nodes deep, of at most `most` nodes. A right side may have the nodes
 // that its left side left over, and the first fault ends the walk: at most most + 1 calls in all, on any words (`tree_visits` in
 // proofs/Visits.antt).
-#[cycle(walk_inner_walk_tree)]
-fn walk_tree(pool: &[u32], s: u32, lo: u64, hi: u64, left: u32, most: u32) -> u64
-    ensures { result ≡ packed (tree_tour left pool.now s lo hi most).answer }
+fn walk_tree(pool: &[u32], s: u32, lo: u64, hi: u64, left: u32, most: u32) -> Walk
+    ensures { result ≡ (tree_tour left pool.now s lo hi most).answer }
 {
     if left < 1 {
-        return BAD;
+        return Walk::Bad;
     }
     if most < 1 {
-        return BAD;
+        return Walk::Bad;
     }
     if !is_slot(pool, s) {
-        return BAD;
+        return Walk::Bad;
     }
-    let c = known_slot(pool, s);
+    let c = get_slot(pool, s);
     if c.left == 0 {
-        return packed(walk_leaf(c, lo, hi, most - 1));
+        return walk_leaf(c, lo, hi, most - 1);
     }
-    walk_inner(pool, s, lo, hi, left, most)
-}
-
-// The same, where an inner node stands at slot s. It is a function of its own so that the compiled walk stores the slice only where it
-// hands it on, and not at the beginning of each call (docs/BENCH.md: a quarter of the audit's time).
-#[cycle(walk_inner_walk_tree)]
-fn walk_inner(pool: &[u32], s: u32, lo: u64, hi: u64, left: u32, most: u32) -> u64
-    requires { InnerAt pool.now s left most }
-    ensures { result ≡ packed (tree_tour left pool.now s lo hi most).answer }
-{
-    let c = known_slot(pool, s);
     let mid = c.key as u64 + 1;
-    let a = walk_tree(pool, c.left, lo, mid, left - 1, most - 1);
-    if a == BAD {
-        return BAD;
-    }
-    let more = (a / SUM_END) as u32;
-    let b = walk_tree(pool, c.right, mid, hi, left - 1, more);
-    if b == BAD {
-        return BAD;
-    }
-    let rest = (b / SUM_END) as u32;
-    packed(join(c.weight, rest, (a % SUM_END) as u32, (b % SUM_END) as u32))
+    let Walk::Whole(more, al) = walk_tree(pool, c.left, lo, mid, left - 1, most - 1) else {
+        return Walk::Bad;
+    };
+    let Walk::Whole(rest, bl) = walk_tree(pool, c.right, mid, hi, left - 1, more) else {
+        return Walk::Bad;
+    };
+    join(c.weight, rest, al, bl)
 }
 
 // The whole tree, none where the root is 0: the nodes left over, and L.
@@ -187,13 +140,10 @@ fn walk_top(pool: &[u32], root: u32, left: u32, most: u32) -> Walk
     if c.weight != ROOT_WEIGHT {
         return Walk::Bad;
     }
-    let t = walk_tree(pool, root, 0, KEY_END, left, most);
-    if t == BAD {
+    let Walk::Whole(rest, l) = walk_tree(pool, root, 0, KEY_END, left, most) else {
         return Walk::Bad;
-    }
-    let rest = (t / SUM_END) as u32;
-    let sum = (t % SUM_END) as u32;
-    Walk::Whole(rest, sum - ROOT_WEIGHT)
+    };
+    Walk::Whole(rest, l - ROOT_WEIGHT)
 }
 
 fn is_free(c: Slot) -> bool

@@ -4,14 +4,9 @@ use Rattle.report.proofs.report.Kinds as report-kinds
 use Rattle.report.proofs.report.Reads as report-reads
 use Rattle.report.proofs.Reported.number.Kinds as number-kinds
 use Rattle.report.proofs.Reported.number.Reads as number_reads
-use Rattle.report.proofs.number_at.Kinds as number-at-kinds
-use Rattle.report.proofs.number_at.Reads as number-at-reads
 
 pub report_decides : DecidesResult 1 report-kinds.ps report-kinds.r report-reads.Post
 report_decides κs a x y e f p q = equal p q
 
 pub number_decides : DecidesResult 0 number-kinds.ps number-kinds.r number_reads.Post
 number_decides κs a x y e f p q = equal p q
-
-pub number_at_decides : DecidesResult 1 number-at-kinds.ps number-at-kinds.r number-at-reads.Post
-number_at_decides κs a x y e f p q = equal p q

@@ -54,7 +54,7 @@ unfolding figure_at
 each_figure P f z h zero = z
 each_figure P f z h (suc i) = each_of P (figures f) z h i
 
-pub zero_at : (i : ℕ) → figure_at i zeros ≡ 0
+zero_at : (i : ℕ) → figure_at i zeros ≡ 0
 unfolding All figures
 zero_at = each_figure (λ x. x ≡ 0) zeros refl (omega arith)
 

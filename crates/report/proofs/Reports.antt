@@ -1,32 +1,25 @@
--- The report's numbers are those of the tree that the words show, which stands at the root as the audit left it: from what the walk
--- answers there to the seven numbers. None wraps on the way (crate tree's Limits). Assumes nothing.
+-- The report's numbers are those of the tree that the words show, which stands at the root as the audit left it: from what the walks
+-- answer there to the seven numbers. None wraps on the way (crate tree's Limits). Assumes nothing.
 use mathlib.Core.Path.{◌≡◌, refl, sym, ◌∙◌}
 use mathlib.Core.Logic.{◌≢◌, ◌⊎◌, inl, inr}
-use mathlib.Core.Bool.{false}
 use mathlib.Core.List.{List}
-use Prim.Native.Nat.{ℕ, zero, suc, ◌+◌, ◌*◌, ◌/◌, ◌%◌, ◌≤◌, ◌<◌}
-use native.Mathlib.Nat.{zero-lt-suc, mul-le-mul_left}
+use Prim.Native.Nat.{ℕ, zero, suc, ◌+◌, ◌*◌, ◌≤◌, ◌<◌}
+use native.Mathlib.Nat.{zero-lt-suc}
 use native.Mathlib.Omega.{arith}
 use lib.ListN.{length, get_or-eq_default}
 use Rattle.tree.specs.declared.Figures.{Figures}
-use Rattle.tree.specs.Codes.{most_slots}
-use Rattle.tree.specs.Tree.{size, red}
+use Rattle.tree.specs.Tree.{size}
 use Rattle.tree.specs.Distances.{if_red, conflicts, red_distance, over_distance, excess_weight, bound, BoundFits}
-use Rattle.tree.specs.State.{Top, empty, full, nodes, level_top, report, figures}
-use Rattle.tree.proofs.Limits.{Fit, figures_fit, conflicts_few, excess_le}
+use Rattle.tree.specs.State.{report, figures}
+use Rattle.tree.proofs.Limits.{Fit, figures_fit}
 use Rattle.format.specs.declared.Header.{Header}
-use Rattle.format.specs.Words.{slot_at}
-use Rattle.format.specs.declared.Audited.TheVariants.{Passed}
-use Rattle.format.specs.Audit.{state_of, audited}
-use Rattle.format.proofs.Shown.{shows_nodes, shows_level}
-use Rattle.format.proofs.AuditCases.{Kept}
-use Rattle.pool.specs.Walks.{most_sum}
+use Rattle.format.specs.Audit.{state_of}
 use Rattle.pool.specs.Standing.{allowance}
-use Rattle.pool.proofs.Standing.{Rooted, standing_weight}
+use Rattle.pool.proofs.Standing.{Rooted}
 use Rattle.report.specs.declared.Counted.{Counted}
-use Rattle.report.specs.Counted.{conflict_place, red_place, over_place, as_reds, as_overs, reds_in, overs_in, counted_in, Counts}
-use Rattle.report.specs.Report.{report_of, figure_at}
-use Rattle.report.proofs.Counting.{conflicts_read, red_distance_read, excess_read, over_distance_read}
+use Rattle.report.specs.Counted.{counted, reds_in, overs_in, Counts}
+use Rattle.report.specs.Report.{figure_at}
+use Rattle.report.proofs.Counting.{counted_eq}
 
 module _ {p : List ℕ} {h : Header} (R : Rooted p h) where
   root_fit : Fit R.standing.tree
@@ -35,57 +28,28 @@ module _ {p : List ℕ} {h : Header} (R : Rooted p h) where
       let w = R.weight_is in
       figures_fit S.tree (rw w at S.fine.chromatic) (omega (arith, S.fine.low)) S.fine.few
 
-  -- It is no red one.
-  pub root_other : false ≡ red (slot_at p h.root).weight
-  unfolding red
-  root_other = rw (standing_weight R.standing refl, R.weight_is)
-
-  -- The walk's answer: its five counts are read out of the two words.
-  module _ {c : Counted} (A : Counts (counted_in h.nodes) p h.root h.nodes (allowance p) c) where
-    reds_are : c.reds ≡ size R.standing.tree + as_reds (conflicts R.standing.tree) (red_distance (size R.standing.tree) R.standing.tree)
+  module _ {reds heavy : Counted} (A : Counts (λ w t. reds_in h.nodes 1 t) p h.root h.nodes (allowance p) reds) (B : Counts (overs_in h.nodes) p h.root h.nodes (allowance p) heavy) where
+    reds_are : reds ≡ counted (size R.standing.tree) (conflicts R.standing.tree) (red_distance (size R.standing.tree) R.standing.tree)
     unfolding reds_in if_red
-    reds_are = rw (A R.standing, R.nodes_are, R.weight_is) (omega arith)
+    reds_are = A R.standing ∙ rw R.nodes_are (counted_eq refl (omega arith) (omega arith))
 
-    overs_are : c.overs ≡ as_overs (excess_weight R.standing.tree) (over_distance (size R.standing.tree) R.standing.tree)
+    heavy_are : heavy ≡ counted (size R.standing.tree) (excess_weight R.standing.tree) (over_distance (size R.standing.tree) R.standing.tree)
     unfolding overs_in
-    overs_are = rw (A R.standing, R.nodes_are, R.weight_is) (omega arith)
+    heavy_are = B R.standing ∙ rw (R.nodes_are, R.weight_is) (counted_eq refl (omega arith) (omega arith))
 
-    -- none reaches the next one's place
-    few_nodes : size R.standing.tree < conflict_place
-    few_nodes = let S = R.standing in omega (arith, S.inside, S.few)
+    pub root_bound_fits : BoundFits h.nodes heavy.distance reds.number reds.distance
+    root_bound_fits = rw (R.nodes_are, reds_are, heavy_are) root_fit.way_fits
 
-    few_conflicts : conflicts R.standing.tree < conflict_place
-    few_conflicts = omega (arith, few_nodes, conflicts_few R.standing.tree)
-
-    low_excess : excess_weight R.standing.tree < over_place
-    low_excess =
-        let S = R.standing in
-        let t = S.tree in
-        let most = mul-le-mul_left {m = size t} {n = most_slots} most_sum (omega (arith, S.inside, S.few)) in
-        omega (arith, excess_le most_sum S.weight t S.fine.chromatic (omega (arith, S.fine.low)))
-
-    conflicts_are : c.reds / conflict_place % conflict_place ≡ conflicts R.standing.tree
-    conflicts_are = rw reds_are (conflicts_read _ _ _ few_nodes few_conflicts)
-
-    red_distance_is : c.reds / red_place ≡ red_distance (size R.standing.tree) R.standing.tree
-    red_distance_is = rw reds_are (red_distance_read _ _ _ few_nodes few_conflicts)
-
-    excess_is : c.overs % over_place ≡ excess_weight R.standing.tree
-    excess_is = rw overs_are (excess_read _ _ low_excess)
-
-    over_distance_is : c.overs / over_place ≡ over_distance (size R.standing.tree) R.standing.tree
-    over_distance_is = rw overs_are (over_distance_read _ _ low_excess)
-
-    pub root_bound_fits : BoundFits h.nodes (c.overs / over_place) (c.reds / conflict_place % conflict_place) (c.reds / red_place)
-    root_bound_fits = rw (R.nodes_are, over_distance_is, conflicts_are, red_distance_is) root_fit.way_fits
+    -- N again, as the walk counted it
+    pub counted_nodes : heavy.nodes ≡ h.nodes
+    counted_nodes = rw (heavy_are, R.nodes_are)
 
     -- the seven numbers
-    pub root_report : {n e r d q b : ℕ} → n ≡ h.nodes → e ≡ c.overs % over_place → r ≡ c.reds / conflict_place % conflict_place
-        → d ≡ c.overs / over_place → q ≡ c.reds / red_place → b ≡ (3 * h.nodes + 1) * d + 2 * h.nodes * r + q
-        → record { nodes = n; level = h.level; excess_weight = e; conflicts = r; over_distance = d; red_distance = q; bound = b }
+    pub root_report : {n b : ℕ} → n ≡ h.nodes → b ≡ (3 * h.nodes + 1) * heavy.distance + 2 * h.nodes * reds.number + reds.distance
+        → record { nodes = n; level = h.level; excess_weight = heavy.number; conflicts = reds.number; over_distance = heavy.distance; red_distance = reds.distance; bound = b }
         ≡ report (state_of p).top
     unfolding report bound
-    root_report i j k l m o = rw (o, i, j, k, l, m, R.top_is, R.nodes_are, R.level_is, excess_is, conflicts_are, over_distance_is, red_distance_is)
+    root_report d e = rw (d, e, R.top_is, R.nodes_are, R.level_is, reds_are, heavy_are)
 
 -- An index that is 0 or past the last number names no number.
 pub figure_other : (i : ℕ) (f : Figures) → (i ≡ 0) ⊎ (length (figures f) < i) → figure_at i f ≡ 0
@@ -102,26 +66,3 @@ pub figure_none : (i : ℕ) (f : Figures) → i ≢ 1 → i ≢ 2 → i ≢ 3 �
 unfolding figures
 figure_none zero f a b c d e g h = sym (figure_other 0 f (inl refl))
 figure_none (suc i) f a b c d e g h = sym (figure_other (suc i) f (inr (past (past (past (past (past (past (past (zero-lt-suc i) a) b) c) d) e) g) h)))
-
--- N and L are the header's.
-module _ (p : List ℕ) {h : Header} (e : audited p ≡ Passed h) where
-  passed_figures : (report_of p).figures ≡ report (state_of p).top
-  unfolding report_of
-  passed_figures = rw e
-
-  module _ (K : Kept p h) where
-    pub first_is_nodes : h.nodes ≡ figure_at 1 (report_of p).figures
-    unfolding figure_at figures report nodes
-    first_is_nodes = rw passed_figures (go (state_of p).top (shows_nodes K.shows))
-      where
-        go : (t : Top) → h.nodes ≡ nodes t → h.nodes ≡ figure_at 1 (report t)
-        go empty i = i
-        go (full t) i = i
-
-    pub second_is_level : h.level ≡ figure_at 2 (report_of p).figures
-    unfolding figure_at figures report level_top
-    second_is_level = rw passed_figures (go (state_of p).top (shows_level K.shows))
-      where
-        go : (t : Top) → h.level ≡ level_top t → h.level ≡ figure_at 2 (report t)
-        go empty i = i
-        go (full t) i = i

@@ -1,5 +1,5 @@
-// Documents 01, Distances, and 02 (iii): the report's seven numbers, counted in one walk down the tree.
-ghost use Rattle.std.specs.Prelude.{◌≡◌, true, false, pred, ◌+◌, ◌*◌, ◌-◌, ◌%◌, ◌≤◌};
+// Documents 01, Distances, and 02 (iii): the report's seven numbers, counted in two walks down the tree.
+ghost use Rattle.std.specs.Prelude.{◌≡◌, pred, ◌+◌, ◌*◌, ◌-◌, ◌≤◌};
 ghost use Rattle.tree.specs.Tree.{red, one};
 ghost use Rattle.tree.specs.Distances.{BoundFits};
 ghost use Rattle.tree.specs.State.{zeros, report};
@@ -7,7 +7,7 @@ ghost use Rattle.format.specs.Words.{slot_at};
 ghost use Rattle.format.specs.declared.Audited.TheVariants.{Passed};
 ghost use Rattle.format.specs.Audit.{state_of, audited};
 ghost use Rattle.pool.specs.Standing.{Standing};
-ghost use Rattle.report.specs.Counted.{conflict_place, lone_leaf, joined, with_reds, with_overs, counted_in, Counts, Small, Fits};
+ghost use Rattle.report.specs.Counted.{lone_leaf, joined, adding, reds_in, overs_in, Counts, Small, Fits};
 ghost use Rattle.report.specs.Report.{report_of, figure_at};
 
 use format::{Audited, Header};
@@ -20,26 +20,23 @@ const RED: u32 = 0;
 
 const BLACK: u32 = 1;
 
-// What the walk finds in a subtree: five counts in two words, so that two subtrees take two additions and little stack. `reds` has the
-// nodes, from CONFLICT_PLACE on the conflicts, from RED_PLACE on their distances added up; `overs` has the weight above 1 of the edges,
-// from OVER_PLACE on their distances added up. No count is so large that it reaches the next one's place (proofs/Counting.antt).
+// What a walk finds in a subtree: its nodes, what it counts there, and the distances of that added up.
 #[derive(Drop)]
 struct Counted {
-    reds: u64,
-    overs: u64,
+    nodes: u64,
+    number: u64,
+    distance: u64,
 }
-
-const CONFLICT_PLACE: u64 = 65536;
-
-const RED_PLACE: u64 = 4294967296;
-
-const OVER_PLACE: u64 = 16777216;
 
 // A leaf by itself.
 fn lone_leaf() -> Counted
     ensures { result ≡ lone_leaf }
 {
-    Counted { reds: 1, overs: 0 }
+    Counted {
+        nodes: 1,
+        number: 0,
+        distance: 0,
+    }
 }
 
 // A node over two subtrees.
@@ -48,37 +45,22 @@ fn joined(a: Counted, b: Counted) -> Counted
     ensures { result ≡ joined a b }
 {
     Counted {
-        reds: 1 + a.reds + b.reds,
-        overs: a.overs + b.overs,
+        nodes: 1 + a.nodes + b.nodes,
+        number: a.number + b.number,
+        distance: a.distance + b.distance,
     }
 }
 
-// The same subtree with so many conflicts more, their distances added up to `distance` ..
-fn with_reds(t: Counted, number: u64, distance: u64) -> Counted
+// The same subtree with more counted in it.
+fn adding(t: Counted, number: u64, distance: u64) -> Counted
     requires { Fits t number distance }
-    ensures { result ≡ with_reds t number distance }
+    ensures { result ≡ adding t number distance }
 {
     Counted {
-        reds: t.reds + (CONFLICT_PLACE * number + RED_PLACE * distance),
-        overs: t.overs,
+        nodes: t.nodes,
+        number: number + t.number,
+        distance: distance + t.distance,
     }
-}
-
-// .. or with so much weight above 1.
-fn with_overs(t: Counted, number: u64, distance: u64) -> Counted
-    requires { Fits t number distance }
-    ensures { result ≡ with_overs t number distance }
-{
-    Counted {
-        reds: t.reds,
-        overs: t.overs + (number + OVER_PLACE * distance),
-    }
-}
-
-fn nodes_in(t: Counted) -> u64
-    ensures { result ≡ t.reds % conflict_place }
-{
-    t.reds % CONFLICT_PLACE
 }
 
 // 01: "outside(u) is N less the number of nodes in u's subtree."
@@ -103,6 +85,54 @@ fn red_edge(yes: bool) -> u64
     if yes { 1 } else { 0 }
 }
 
+// 01: "a node below a red edge adds one conflict per red child edge, a node below any other edge (and the root) adds none, and each
+// passes its children to either." The subtree at slot s, in a tree of n nodes, at most `left` nodes deep: its conflicts, and
+// outside(u) for each.
+#[cycle(below_other_below_red_either)]
+fn below_red(pool: &[u32], s: u32, n: u32, left: u32) -> Counted
+    requires { Standing pool.now s n left }
+    ensures { Counts (λ w t. reds_in n 0 t) pool.now s n left result }
+{
+    let c = get_slot(pool, s);
+    if c.left == 0 {
+        return lone_leaf();
+    }
+    let l = is_red(pool, c.left);
+    let a = either(pool, l, c.left, n, left - 1);
+    let r = is_red(pool, c.right);
+    let b = either(pool, r, c.right, n, left - 1);
+    let u = joined(a, b);
+    let own = red_edge(l) + red_edge(r);
+    adding(u, own, own * outside(n, u.nodes))
+}
+
+#[cycle(below_other_below_red_either)]
+fn below_other(pool: &[u32], s: u32, n: u32, left: u32) -> Counted
+    requires { Standing pool.now s n left }
+    ensures { Counts (λ w t. reds_in n 1 t) pool.now s n left result }
+{
+    let c = get_slot(pool, s);
+    if c.left == 0 {
+        return lone_leaf();
+    }
+    let a = either(pool, is_red(pool, c.left), c.left, n, left - 1);
+    let b = either(pool, is_red(pool, c.right), c.right, n, left - 1);
+    joined(a, b)
+}
+
+// A child is passed to the rule of the edge that leads to it.
+#[cycle(below_other_below_red_either)]
+fn either(pool: &[u32], under_red: bool, s: u32, n: u32, left: u32) -> Counted
+    requires { Standing pool.now s n left × (under_red ≡ red (slot_at pool.now s).weight) }
+    ensures { Counts (reds_in n) pool.now s n left result }
+{
+    if under_red {
+        below_red(pool, s, n, left)
+    } else {
+        below_other(pool, s, n, left)
+    }
+}
+
 // 02 (iii): "weight less one", if the edge is overweighted.
 fn excess(weight: u32) -> u64
     ensures { result ≡ pred weight }
@@ -114,55 +144,23 @@ fn excess(weight: u32) -> u64
     }
 }
 
-// 01: "a node below a red edge adds one conflict per red child edge, a node below any other edge (and the root) adds none, and each
-// passes its children to either." The subtree at slot s, in a tree of n nodes, at most `left` nodes deep: its conflicts and outside(u) for
-// each; and the weight above 1 of its edges and of the one to it, with its distances. No leaf is below a red edge.
-#[cycle(below_other_below_red_either)]
-fn below_red(pool: &[u32], s: u32, n: u32, left: u32) -> Counted
-    requires { Standing pool.now s n left × (true ≡ red (slot_at pool.now s).weight) }
-    ensures { Counts (counted_in n) pool.now s n left result }
-{
-    let c = get_slot(pool, s);
-    let l = is_red(pool, c.left);
-    let a = either(pool, l, c.left, n, left - 1);
-    let r = is_red(pool, c.right);
-    let b = either(pool, r, c.right, n, left - 1);
-    let u = joined(a, b);
-    let own = red_edge(l) + red_edge(r);
-    with_reds(u, own, own * outside(n, nodes_in(u)))
-}
-
-// 02 (iii): the third number, "the sum of weight less one". 01: "D adds (weight - 1) times outside(u) over overweighted edges to u." The
-// root's weight is 1 and so counts in nothing.
-#[cycle(below_other_below_red_either)]
-fn below_other(pool: &[u32], s: u32, n: u32, left: u32) -> Counted
-    requires { Standing pool.now s n left × (false ≡ red (slot_at pool.now s).weight) }
-    ensures { Counts (counted_in n) pool.now s n left result }
+// 02 (iii): the third number, "the sum of weight less one". 01: "D adds (weight - 1) times outside(u) over overweighted edges to u." Of
+// the edges in the subtree at slot s and the one to it. The root's weight is 1 and so counts in nothing.
+fn over(pool: &[u32], s: u32, n: u32, left: u32) -> Counted
+    requires { Standing pool.now s n left }
+    ensures { Counts (overs_in n) pool.now s n left result }
 {
     let c = get_slot(pool, s);
     let u = if c.left == 0 {
         lone_leaf()
     } else {
         joined(
-            either(pool, is_red(pool, c.left), c.left, n, left - 1),
-            either(pool, is_red(pool, c.right), c.right, n, left - 1),
+            over(pool, c.left, n, left - 1),
+            over(pool, c.right, n, left - 1),
         )
     };
     let above = excess(c.weight);
-    with_overs(u, above, above * outside(n, nodes_in(u)))
-}
-
-// A child is passed to the rule of the edge that leads to it.
-#[cycle(below_other_below_red_either)]
-fn either(pool: &[u32], under_red: bool, s: u32, n: u32, left: u32) -> Counted
-    requires { Standing pool.now s n left × (under_red ≡ red (slot_at pool.now s).weight) }
-    ensures { Counts (counted_in n) pool.now s n left result }
-{
-    if under_red {
-        below_red(pool, s, n, left)
-    } else {
-        below_other(pool, s, n, left)
-    }
+    adding(u, above, above * outside(n, u.nodes))
 }
 
 // 01: "(3N+1)D + 2NR + Q".
@@ -227,7 +225,7 @@ fn zeros() -> Figures
     }
 }
 
-// The numbers of the tree that the words show, which passed the audit with the header h; L is read there. The walk goes no deeper than the
+// The numbers of the tree that the words show, which passed the audit with the header h; L is read there. The walks go no deeper than the
 // audit's does.
 fn figures(pool: &[u32], h: Header) -> Figures
     requires { audited pool.now ≡ Passed h }
@@ -236,28 +234,27 @@ fn figures(pool: &[u32], h: Header) -> Figures
     if h.root == 0 {
         return zeros();
     }
-    let t = below_other(pool, h.root, h.nodes, allowance(pool));
+    let left = allowance(pool);
+    let reds = below_other(pool, h.root, h.nodes, left);
+    let heavy = over(pool, h.root, h.nodes, left);
     let n = h.nodes as u64;
     let l = h.level as u64;
-    let d = t.overs / OVER_PLACE;
-    let r = t.reds / CONFLICT_PLACE % CONFLICT_PLACE;
-    let q = t.reds / RED_PLACE;
     Figures {
         nodes: n,
         level: l,
-        excess_weight: t.overs % OVER_PLACE,
-        conflicts: r,
-        over_distance: d,
-        red_distance: q,
-        bound: step_bound(n, d, r, q),
+        excess_weight: heavy.number,
+        conflicts: reds.number,
+        over_distance: heavy.distance,
+        red_distance: reds.distance,
+        bound: step_bound(n, heavy.distance, reds.number, reds.distance),
     }
 }
 
-// 01: "audit and report give 0, 1 or 2, the report with seven zeros when refused": what the report is after the audit.
-fn after(pool: &[u32], seen: Audited) -> Reported
-    requires { seen ≡ audited pool.now }
-    ensures { result ≡ report_of pool.now }
+// 01: "audit and report give 0, 1 or 2, the report with seven zeros when refused".
+pub fn report(pool: &[u32]) -> Reported
+    ensures report { result ≡ report_of pool.now }
 {
+    let seen = examine(pool);
     let code = seen.code();
     let figures = match seen {
         Audited::Length => zeros(),
@@ -267,35 +264,5 @@ fn after(pool: &[u32], seen: Audited) -> Reported
     Reported {
         code: code,
         figures: figures,
-    }
-}
-
-pub fn report(pool: &[u32]) -> Reported
-    ensures report { result ≡ report_of pool.now }
-{
-    after(pool, examine(pool))
-}
-
-// One number of a pool that passed the audit with the header h: N and L are read there, and only the others take the walk.
-fn passed_number(pool: &[u32], h: Header, index: u32) -> u64
-    requires { audited pool.now ≡ Passed h }
-    ensures { result ≡ figure_at index (report_of pool.now).figures }
-{
-    match index {
-        Reported::NODES => h.nodes as u64,
-        Reported::LEVEL => h.level as u64,
-        _ => after(pool, Audited::Passed(h)).number(index),
-    }
-}
-
-// One number, for callers who ask for no other.
-pub fn number_at(pool: &[u32], index: u32) -> u64
-    ensures number { result ≡ figure_at index (report_of pool.now).figures }
-{
-    let seen = examine(pool);
-    match seen {
-        Audited::Length => 0,
-        Audited::Broken => 0,
-        Audited::Passed(h) => passed_number(pool, h, index),
     }
 }

@@ -37,10 +37,9 @@ use Rattle.updates.proofs.InsertShows.{insert_entry}
 use Rattle.updates.proofs.DeleteShows.{delete_entry}
 use Rattle.spans.specs.Spanning.{next_answer}
 use Rattle.spans.proofs.NextShows.{next_entry}
-use Rattle.steps.specs.Steps.{step_words}
-use Rattle.settle.specs.Settling.{settle_words}
+use Rattle.steps.specs.Steps.{step_words, settle_words}
 use Rattle.steps.proofs.StepShows.{step_entry}
-use Rattle.settle.proofs.SettleShows.{settle_entry}
+use Rattle.steps.proofs.SettleShows.{settle_entry}
 use Rattle.set.specs.Set.{Passing, member, held, room, needed, OneMore, SameSet, Prepared, Searched, here, nowhere, NextSays, next_is, none_left, Inserted, key_present, room_lacking, inserted, Deleted, key_absent, gone, KeyCodes, InsertCodes}
 use Rattle.tree.proofs.Moves.{upwards_length, nodes_held, Moves, insert_moves, delete_moves, step_free, settle_keeps_keys, settle_free}
 use Rattle.set.proofs.Members.{member_shown, held_shown, room_shown, needed_shown, room_held, one_more, same_set}

@@ -25,10 +25,9 @@ use Rattle.format.specs.Shows.{PoolShows}
 use Rattle.report.specs.declared.Reported.{Reported}
 use Rattle.report.specs.Report.{report_of}
 use Rattle.report.proofs.Exact.{report_exact}
-use Rattle.steps.specs.Steps.{step_answer, step_words}
-use Rattle.settle.specs.Settling.{settle_answer, settle_words}
+use Rattle.steps.specs.Steps.{step_answer, step_words, settle_answer, settle_words}
 use Rattle.steps.proofs.StepShows.{step_entry}
-use Rattle.settle.proofs.SettleShows.{settle_entry}
+use Rattle.steps.proofs.SettleShows.{settle_entry}
 use Rattle.set.specs.Set.{Passing, Settles, done, spent}
 use Rattle.set.specs.Balance.{bound_number, excess_number, Balanced, Stepping, no_step, one_step}
 use Rattle.set.proofs.Passing.{shown, step_passing}

@@ -44,8 +44,7 @@ use Rattle.pool.specs.Results.{prepared_words}
 use Rattle.updates.specs.Updating.{insert_answer, insert_words, delete_answer, delete_words}
 use Rattle.updates.proofs.InsertShows.{insert_entry}
 use Rattle.updates.proofs.DeleteShows.{delete_entry}
-use Rattle.steps.specs.Steps.{step_answer, step_words}
-use Rattle.settle.specs.Settling.{settle_words}
+use Rattle.steps.specs.Steps.{step_answer, step_words, settle_words}
 use Rattle.steps.proofs.StepShows.{step_entry}
 use Rattle.set.specs.Set.{Passing}
 use Rattle.set.specs.Levels.{LevelTrue, sibling_weight, sibling_under_root}

@@ -23,10 +23,9 @@ use Rattle.pool.proofs.Prepares.{prepared_shows}
 use Rattle.updates.specs.Updating.{insert_words, delete_words}
 use Rattle.updates.proofs.InsertShows.{insert_entry}
 use Rattle.updates.proofs.DeleteShows.{delete_entry}
-use Rattle.steps.specs.Steps.{step_words}
-use Rattle.settle.specs.Settling.{settle_words}
+use Rattle.steps.specs.Steps.{step_words, settle_words}
 use Rattle.steps.proofs.StepShows.{step_entry}
-use Rattle.settle.proofs.SettleShows.{settle_entry}
+use Rattle.steps.proofs.SettleShows.{settle_entry}
 use Rattle.set.specs.Inside.{Shown, ShowsSound, Passing, audited_answer, audit_answer}
 use Rattle.set.specs.Set.{Audits, wrong_length, rules_broken, audit_passed}
 

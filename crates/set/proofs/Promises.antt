@@ -24,8 +24,7 @@ use Rattle.updates.specs.Updating.{search_answer, insert_answer, insert_words, d
 use Rattle.updates.proofs.Kept as kept
 use Rattle.spans.specs.Spanning.{next_answer, count_answer, delete_span_answer, delete_span_words}
 use Rattle.report.specs.Report.{report_of}
-use Rattle.steps.specs.Steps.{step_answer, step_words}
-use Rattle.settle.specs.Settling.{settle_answer, settle_words}
+use Rattle.steps.specs.Steps.{step_answer, step_words, settle_answer, settle_words}
 use Rattle.steps.proofs.StepShows as steps
 use Rattle.set.specs.Operations.{audit_answer}
 use Rattle.set.specs.Set.{Passing, member, held, room, needed, Audits, LeafSlot, OneMore, SameSet, Prepared, Searched, NextSays, members_in, SpanGone, Inserted, Deleted, Settles, KeyCodes, InsertCodes}

@@ -17,10 +17,9 @@ use Rattle.format.specs.Audit.{state_of}
 use Rattle.kinds.specs.Doubles.{six_words, ChangedAt}
 use Rattle.kinds.proofs.Sides.{Side, left, right, double, near, away}
 use Rattle.kinds.proofs.SixShown.{double_done, double_settled}
-use Rattle.steps.specs.Steps.{step_answer, step_words}
-use Rattle.settle.specs.Settling.{settle_words}
+use Rattle.steps.specs.Steps.{step_answer, step_words, settle_words}
 use Rattle.steps.proofs.StepShows.{step_entry}
-use Rattle.settle.proofs.SettleShows.{settle_entry}
+use Rattle.steps.proofs.SettleShows.{settle_entry}
 use Rattle.set.specs.Set.{Passing}
 use Rattle.set.proofs.Passing.{shown, passing_state}
 

@@ -10,9 +10,9 @@ use Rattle.tree.specs.Codes.{code_of, number_of}
 use Rattle.tree.proofs.StepState.{step_sound_state}
 use Rattle.tree.proofs.Settling.{settle_sound_state}
 use Rattle.tree.proofs.Working.{step_works, settle_works as settle-state-works}
-use Rattle.settle.specs.Settling.{settle_answer, settle_words}
+use Rattle.steps.specs.Steps.{settle_answer, settle_words}
 use Rattle.steps.proofs.StepShows.{step_entry}
-use Rattle.settle.proofs.SettleShows.{settle_entry}
+use Rattle.steps.proofs.SettleShows.{settle_entry}
 use Rattle.set.specs.Set.{Passing}
 use Rattle.set.specs.Balance.{excess_number, Stepping, no_step, one_step}
 use Rattle.set.proofs.Passing.{shown, step_passing}

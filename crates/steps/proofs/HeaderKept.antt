@@ -1,19 +1,23 @@
--- Of the header a step moves L and no other word, whatever the words: so a pool is left as with the whole header written (`step_words`).
--- Why: what a step writes is slots (`applied_header` of crate kinds), and the header after it is the one before it with another L. Assumes
--- nothing.
+-- Of the header a step and settle move L and no other word, whatever the words: so a pool is left as with the whole header written
+-- (`step_words`, `settle_words_lem`).
+-- Why: what a step writes is slots (`applied_header` of crate kinds), and the header after it is the one before it with another L; the slots
+-- of the scan are numbered from 1. Assumes nothing.
 use mathlib.Core.Path.{◌≡◌, refl, sym, ap, ◌∙◌}
 use mathlib.Core.Bool.{Bool, true, false, and-eq-true_iff}
-use mathlib.Core.List.{List}
+use mathlib.Core.List.{List, [], ◌∷◌}
+use mathlib.Core.Option.{Option, none, some}
+use native.Mathlib.Omega.{arith}
 use borrow.Author.Tests.{leb-true}
-use Prim.Native.Nat.{ℕ, ◌≤◌}
+use Prim.Native.Nat.{ℕ, zero, suc, ◌≤◌}
 use Rattle.tree.specs.declared.Kind.{Kind}
 use Rattle.tree.specs.declared.Named.{Named}
 use Rattle.tree.specs.declared.Named.TheVariants.{Known, Unknown}
 use Rattle.tree.specs.declared.Refusal.TheVariants.{NoInnerNode, ConditionFalse, LevelLimit}
 use Rattle.tree.specs.declared.Answer.TheVariants.{Done, Refused}
-use Rattle.tree.specs.Codes.{kind_number, named}
+use Rattle.tree.specs.Codes.{kinds, kind_number, named}
+use Rattle.tree.specs.Settle.{last_of}
 use Rattle.format.specs.declared.Header.{Header}
-use Rattle.format.specs.Words.{at_level, header_of, put_header, slot_at}
+use Rattle.format.specs.Words.{at_level, header_of, put_header, slot_at, last_slot}
 use Rattle.format.specs.Performing.{Written, written, words_after}
 use Rattle.format.proofs.Slots.{level_alone}
 use Rattle.kinds.specs.declared.Around.{Around}
@@ -21,67 +25,108 @@ use Rattle.kinds.specs.Around.{around_at}
 use Rattle.kinds.specs.Conditions.{fits}
 use Rattle.kinds.specs.Effects.{header_after}
 use Rattle.kinds.proofs.HeaderKept.{applied_header}
-use Rattle.steps.specs.Steps.{inner_slot, inner_at, limit_at, taken_words, step_kind, step_named, step_under, level_written, step_words}
+use Rattle.steps.specs.declared.Lowest.{Lowest}
+use Rattle.steps.specs.declared.Lowest.TheVariants.{At, Nothing}
+use Rattle.steps.specs.Steps.{inner_slot, inner_at, limit_at, taken_words, step_kind, step_named, step_under, first_kind, first_from, first_allowed, Pool, pool_of, next_pool, pools_after, settle_under, level_written, step_words, settle_words}
 
--- from a header and words to others: the first four words stay, and of the header all but L
-pub record Kept (h : Header) (p : List ℕ) (g : Header) (q : List ℕ) : Type 0 where
-  words_kept : header_of q ≡ header_of p
-  header_kept : g ≡ at_level h g.level
+-- from a pool to another one: the first four words stay, and of the header all but L
+record Kept (P Q : Pool) : Type 0 where
+  words_kept : header_of Q.words ≡ header_of P.words
+  header_kept : Q.header ≡ at_level P.header Q.header.level
 
-pub kept_same : (h : Header) (p : List ℕ) → Kept h p h p
-kept_same h p = record { words_kept = refl; header_kept = refl }
+kept_same : (P : Pool) → Kept P P
+kept_same P = record { words_kept = refl; header_kept = refl }
 
-pub kept_more : {h g f : Header} {p q r : List ℕ} → Kept h p g q → Kept g q f r → Kept h p f r
-kept_more {f = f} a b = record {
+kept_more : {P Q R : Pool} → Kept P Q → Kept Q R → Kept P R
+kept_more {P} {Q} {R} a b = record {
   words_kept = b.words_kept ∙ a.words_kept;
-  header_kept = b.header_kept ∙ ap (λ (h : Header). at_level h f.level) a.header_kept;
+  header_kept = b.header_kept ∙ ap (λ (h : Header). at_level h R.header.level) a.header_kept;
 }
 
 -- an effect at a slot
-pub kept_step : (h : Header) (p : List ℕ) (s : ℕ) (k : Kind) (a : Around) → 1 ≤ s → Kept h p (header_after k s h) (taken_words h.root p s k a)
+kept_step : (P : Pool) (s : ℕ) (k : Kind) (a : Around) → 1 ≤ s → Kept P (pool_of (header_after k s P.header) (taken_words P.header.root P.words s k a))
 unfolding header_after
-kept_step h p s k a i = record { words_kept = applied_header p s k _ _ i; header_kept = refl }
+kept_step P s k a h = record { words_kept = applied_header P.words s k _ _ h; header_kept = refl }
 
--- from them to what an operation leaves
-abbrev pub KeptBy : Header → List ℕ → Written → Type 0
-KeptBy h p w = Kept h p w.result.header w.words
+left : Written → Pool
+left w = pool_of w.result.header w.words
 
 -- then L is all that there is to write
-pub level_written_lem : (p : List ℕ) (w : Written) → KeptBy (header_of p) p w → level_written w ≡ words_after w
+level_written_lem : (p : List ℕ) (w : Written) → Kept (pool_of (header_of p) p) (left w) → level_written w ≡ words_after w
+unfolding left
 level_written_lem p w k =
     sym (level_alone w.words w.result.header.level)
     ∙ ap (put_header w.words) (ap (λ (h : Header). at_level h w.result.header.level) k.words_kept ∙ sym k.header_kept)
 
+-- Step.
 module _ (p : List ℕ) (h : Header) (s : ℕ) where
-  kind_kept : 1 ≤ s → (k : Kind) → KeptBy h p (step_kind p h s (slot_at p s) k)
-  unfolding step_kind
+  kind_kept : 1 ≤ s → (k : Kind) → Kept (pool_of h p) (left (step_kind p h s (slot_at p s) k))
+  unfolding step_kind left
   kind_kept i k = go (fits k (around_at p s)) (limit_at k h s)
     where
-      go : (a b : Bool) → KeptBy h p (elim a [
+      go : (a b : Bool) → Kept (pool_of h p) (left (elim a [
         | true ↦ elim b [ true ↦ written p (Refused LevelLimit) h | false ↦ written (taken_words h.root p s k (around_at p s)) (Done (kind_number k)) (header_after k s h) ]
         | false ↦ written p (Refused ConditionFalse) h
-      ])
-      go true true = kept_same h p
-      go true false = kept_step h p s k (around_at p s) i
-      go false b = kept_same h p
+      ]))
+      go true true = kept_same (pool_of h p)
+      go true false = kept_step (pool_of h p) s k (around_at p s) i
+      go false b = kept_same (pool_of h p)
 
-  named_kept : 1 ≤ s → (m : Named) → KeptBy h p (step_named p h s m)
-  unfolding step_named
-  named_kept i Unknown = kept_same h p
+  named_kept : 1 ≤ s → (m : Named) → Kept (pool_of h p) (left (step_named p h s m))
+  unfolding step_named left
+  named_kept i Unknown = kept_same (pool_of h p)
   named_kept i (Known k) = kind_kept i k
 
   inner_from_one : inner_at p s ≡ true → 1 ≤ s
   unfolding inner_slot
   inner_from_one e = let g = simp and-eq-true_iff at e in leb-true 1 s g.0.0
 
-  step_kept : (n : ℕ) → KeptBy h p (step_under p h s n)
-  unfolding step_under
+  step_kept : (n : ℕ) → Kept (pool_of h p) (left (step_under p h s n))
+  unfolding step_under left
   step_kept n = go (inner_at p s) refl
     where
-      go : (b : Bool) → inner_at p s ≡ b → KeptBy h p (elim b [ true ↦ step_named p h s (named n) | false ↦ written p (Refused NoInnerNode) h ])
+      go : (b : Bool) → inner_at p s ≡ b → Kept (pool_of h p) (left (elim b [ true ↦ step_named p h s (named n) | false ↦ written p (Refused NoInnerNode) h ]))
       go true e = named_kept (inner_from_one e) (named n)
-      go false e = kept_same h p
+      go false e = kept_same (pool_of h p)
 
 pub step_words_lem : (p : List ℕ) (s n : ℕ) → step_words p s n ≡ words_after (step_under p (header_of p) s n)
 unfolding step_words
 step_words_lem p s n = level_written_lem p (step_under p (header_of p) s n) (step_kept p (header_of p) s n)
+
+at_slot : {s v : ℕ} {j k : Kind} {a b : Around} → At s j a ≡ At v k b → s ≡ v
+at_slot e = cc
+
+some_is : {P Q : Pool} → some P ≡ some Q → P ≡ Q
+some_is e = cc
+
+-- Settle. The first slot found is not below the first one looked at.
+not_below : (h : Header) (p : List ℕ) (n s : ℕ) {v : ℕ} {k : Kind} {a : Around} → first_from n h p s ≡ At v k a → s ≤ v
+unfolding first_from
+not_below h p zero s {v} {k} {a} e = let z : ◌≡◌ {A = ℕ} 0 1 = cc in absurd (omega arith)
+not_below h p (suc n) s {v} {k} {a} e = go (first_kind kinds h p s) e (not_below h p n (suc s))
+  where
+    go : (o : Option Kind) → elim o [ some j ↦ At s j (around_at p s) | none ↦ first_from n h p (suc s) ] ≡ At v k a → (first_from n h p (suc s) ≡ At v k a → suc s ≤ v) → s ≤ v
+    go (some j) f rest = omega (arith, at_slot f)
+    go none f rest = omega (arith, rest f)
+
+next_kept : (P Q : Pool) → next_pool P ≡ some Q → Kept P Q
+unfolding next_pool first_allowed
+next_kept P Q e = go (first_allowed P.header P.words) refl e
+  where
+    go : (f : Lowest) → first_allowed P.header P.words ≡ f
+        → elim f [ At s k a ↦ some (pool_of (header_after k s P.header) (taken_words P.header.root P.words s k a)) | Nothing ↦ none ] ≡ some Q → Kept P Q
+    go (At s k a) found same = rw (sym (some_is same)) (kept_step P s k a (not_below P.header P.words (last_slot P.words) 1 found))
+    go Nothing found same = let z : ◌≡◌ {A = ℕ} 0 1 = cc in absurd (omega arith)
+
+pools_kept : (b : ℕ) (P : Pool) → Kept P (last_of P (pools_after b P))
+unfolding pools_after last_of
+pools_kept zero P = kept_same P
+pools_kept (suc b) P = go (next_pool P) refl (pools_kept b)
+  where
+    go : (o : Option Pool) → next_pool P ≡ o → ((Q : Pool) → Kept Q (last_of Q (pools_after b Q))) → Kept P (last_of P (elim o [ some Q ↦ Q ∷ pools_after b Q | none ↦ [] ]))
+    go (some Q) e f = kept_more (next_kept P Q e) (f Q)
+    go none e f = kept_same P
+
+pub settle_words_lem : (p : List ℕ) (budget : ℕ) → settle_words p budget ≡ words_after (settle_under p (header_of p) budget)
+unfolding settle_words settle_under left
+settle_words_lem p b = level_written_lem p (settle_under p (header_of p) b) (pools_kept b (pool_of (header_of p) p))

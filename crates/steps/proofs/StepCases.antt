@@ -1,9 +1,8 @@
 -- The command step on words, case by case, in the order of its refusals: 8 and 9 (`case_8`, `case_9`, `case_known`), and of a kind that
--- is known 10, 11 and none (`kind_10`, `kind_11`, `kind_done`), with what trying the kind leaves of the words in each. Assumes nothing.
-use mathlib.Core.Path.{◌≡◌, refl, ◌∙◌}
-use mathlib.Core.Bool.{Bool, true, false, not, ◌&&◌}
+-- is known 10, 11 and none (`kind_10`, `kind_11`, `kind_done`). Assumes nothing.
+use mathlib.Core.Path.{◌≡◌}
+use mathlib.Core.Bool.{true, false}
 use mathlib.Core.List.{List}
-use lib.Dec.{eqb}
 use Prim.Native.Nat.{ℕ}
 use Rattle.tree.specs.declared.Kind.{Kind}
 use Rattle.tree.specs.declared.Named.TheVariants.{Known, Unknown}
@@ -17,14 +16,7 @@ use Rattle.format.specs.Performing.{written}
 use Rattle.kinds.specs.Around.{around_of}
 use Rattle.kinds.specs.Conditions.{fits}
 use Rattle.kinds.specs.Effects.{header_after}
-use Rattle.kinds.specs.Tried.{where_holds, held_back, tried}
-use Rattle.kinds.proofs.Weights.{tried_applied}
 use Rattle.steps.specs.Steps.{inner_at, limit_at, taken_words, step_kind, step_named, step_under}
-
--- what does not fit changes nothing, held back or not
-unchanged : (held : Bool) (q p : List ℕ) → where_holds (not held && false) q p ≡ p
-unchanged true q p = refl
-unchanged false q p = refl
 
 module _ (p : List ℕ) (h : Header) (s : ℕ) where
   module _ (n : ℕ) where
@@ -53,24 +45,3 @@ module _ (p : List ℕ) (h : Header) (s : ℕ) where
         → step_kind p h s c k ≡ written (taken_words h.root p s k (around_of p c)) (Done (kind_number k)) (header_after k s h)
     unfolding step_kind
     kind_done f l = rw (f, step_kind, l)
-
-    -- what trying the kind leaves, where c are the words of slot s
-    module _ (w : c ≡ slot_at p s) where
-      abbrev tried_here : List ℕ
-      tried_here = tried p s c k (eqb s h.root) h.level
-
-      abbrev effect_here : List ℕ
-      effect_here = taken_words h.root p s k (around_of p c)
-
-      tried_here_lem : tried_here ≡ where_holds (not (limit_at k h s) && fits k (around_of p c)) effect_here p
-      unfolding limit_at held_back
-      tried_here_lem = rw (w) (tried_applied p s k (eqb s h.root) h.level)
-
-      pub tried_10 : fits k (around_of p c) ≡ false → tried_here ≡ p
-      tried_10 f = tried_here_lem ∙ rw (f) (unchanged (limit_at k h s) effect_here p)
-
-      pub tried_11 : limit_at k h s ≡ true → tried_here ≡ p
-      tried_11 l = tried_here_lem ∙ rw (l)
-
-      pub tried_done : fits k (around_of p c) ≡ true → limit_at k h s ≡ false → tried_here ≡ effect_here
-      tried_done f l = tried_here_lem ∙ rw (l, f)

@@ -2,7 +2,7 @@
 -- that the definition gives (`step_shows`, and `step_entry` for a pool). And on any words a refused step changes none of them
 -- (`refused_keeps_words`).
 -- Why: both go by the same questions in the same order, and each question has the same answer: whether the slot is an inner node
--- (InnerShows.antt), whether the condition holds (ConditionShows.antt of crate kinds), whether the level is at its limit
+-- (AllowedShows.antt), whether the condition holds (ConditionShows.antt of crate kinds), whether the level is at its limit
 -- (LevelShows.antt); and an accepted step has the same effect (EffectShows.antt of crate kinds). Assumes nothing.
 use mathlib.Core.Path.{◌≡◌, refl, sym, ◌∙◌}
 use mathlib.Core.Bool.{Bool, true, false}
@@ -34,7 +34,7 @@ use Rattle.kinds.proofs.EffectShows.{effect_shows}
 use Rattle.steps.specs.Steps.{inner_at, limit_at, taken_words, step_kind, step_named, step_under, step_answer, step_words}
 use Rattle.steps.proofs.HeaderKept.{step_words_lem}
 use Rattle.steps.proofs.LevelShows.{limit_shows}
-use Rattle.steps.proofs.InnerShows.{inner_shows, inner_empty}
+use Rattle.steps.proofs.AllowedShows.{inner_shows, inner_empty}
 use Rattle.steps.proofs.StepCases.{case_8, case_9, case_known, kind_10, kind_11, kind_done}
 
 module _ (S : State) (sound : Sound S) (h : Header) (p : List ℕ) (shows : Shows h p S) (s n : ℕ) where

@@ -1,7 +1,7 @@
 //! The eight kinds, a step, the first allowed step, settle; on a sound pool.
 
 use crate::code;
-use crate::pool::{level, put, read, root, set_level, slots_of, word, Slot, HEAVIEST, KEY, LEFT, MOST_SLOTS, RIGHT, WEIGHT};
+use crate::pool::{level, put, read, root, set_level, slots_of, word, Slot, HEAVIEST, KEY, LEFT, RIGHT, WEIGHT};
 
 const KINDS: u32 = 8;
 
@@ -253,131 +253,10 @@ struct Found {
     around: Around,
 }
 
-/// Slots of a block, which share a mark, and of a group of blocks, which share another.
-const BLOCK: u32 = 8;
-const GROUP: u32 = 32 * BLOCK;
-const BLOCKS: usize = (MOST_SLOTS + 1) / BLOCK as usize;
-const GROUPS: usize = (MOST_SLOTS + 1) / GROUP as usize;
-
-/// Where settle has to look: a slot of a block without a mark allows no step, and a group without one has no marked block.
-struct Awake {
-    blocks: [u8; BLOCKS],
-    groups: [u8; GROUPS],
-}
-
-impl Awake {
-    fn everywhere(pool: &[u32]) -> Awake {
-        let mut awake = Awake { blocks: [0; BLOCKS], groups: [0; GROUPS] };
-        let last = slots_of(pool);
-        awake.blocks[..=(last / BLOCK) as usize].fill(1);
-        awake.groups[..=(last / GROUP) as usize].fill(1);
-        awake
-    }
-
-    #[inline]
-    fn wake(&mut self, slot: u32) {
-        self.blocks[(slot / BLOCK) as usize] = 1;
-        self.groups[(slot / GROUP) as usize] = 1;
-    }
-
-    /// "the lowest slot with an allowed kind, and there the lowest kind". Where it finds none, the marks go.
-    #[inline(always)]
-    fn first_found(&mut self, pool: &[u32]) -> Option<Found> {
-        let last = slots_of(pool);
-        for group in 0..=(last / GROUP) as usize {
-            if self.groups[group] == 0 {
-                continue;
-            }
-            let first = group * BLOCKS / GROUPS;
-            for block in first..(first + BLOCKS / GROUPS).min((last / BLOCK) as usize + 1) {
-                if self.blocks[block] == 0 {
-                    continue;
-                }
-                let found = first_in(pool, block as u32);
-                if found.is_some() {
-                    return found;
-                }
-                self.blocks[block] = 0;
-            }
-            self.groups[group] = 0;
-        }
-        None
-    }
-
-    /// Marks, before the step, what it can newly allow outside v's own block, which keeps its mark: at the slots that get another place or
-    /// other children, and above v, where what the nodes there see of v is no longer the same.
-    #[inline(always)]
-    fn wake_for(&mut self, pool: &[u32], found: &Found) {
-        let Found { slot, kind, around } = found;
-        let Around { v, left, right } = around;
-        match kind {
-            1 => {
-                self.wake(v.left);
-                self.wake(v.right);
-            }
-            2 | 8 => self.wake(v.left),
-            3 | 7 => self.wake(v.right),
-            4 => {
-                self.wake(v.left);
-                self.wake(left.words.right);
-            }
-            5 => {
-                self.wake(v.right);
-                self.wake(right.words.left);
-            }
-            _ => {}
-        }
-        if !(2..=5).contains(kind) {
-            self.wake_above(pool, *slot, *v, weight_after(pool, *slot, *v, *kind));
-        }
-    }
-
-    /// The parent of v sees whether v is red or overweighted, and what is below a red v; the parent of that one, whether v is red.
-    fn wake_above(&mut self, pool: &[u32], slot: u32, v: Slot, after: u32) {
-        if v.weight == 0 || after == 0 || (v.weight > 1) != (after > 1) {
-            let Above { parent, grandparent } = above(pool, slot, v.key);
-            self.wake(parent);
-            if (v.weight == 0) != (after == 0) {
-                self.wake(grandparent);
-            }
-        }
-    }
-}
-
-/// The weight word of v after a step of kind 1, 6, 7 or 8.
-fn weight_after(pool: &[u32], slot: u32, v: Slot, kind: u32) -> u32 {
-    match kind {
-        1 if slot != root(pool) => v.weight - 1,
-        6 if slot != root(pool) => v.weight + 1,
-        _ => v.weight,
-    }
-}
-
-/// The parent and the parent's parent, each 0 where there is none.
-struct Above {
-    parent: u32,
-    grandparent: u32,
-}
-
-/// By the way down to an inner node's router, which passes through the node.
-fn above(pool: &[u32], slot: u32, router: u32) -> Above {
-    let mut above = Above { parent: 0, grandparent: 0 };
-    let mut at = root(pool);
-    for _ in 0..slots_of(pool) {
-        if at == slot {
-            break;
-        }
-        above = Above { parent: at, grandparent: above.parent };
-        at = child(pool, at, if router <= word(pool, at, KEY) { LEFT } else { RIGHT });
-    }
-    above
-}
-
-/// The first allowed step of a block.
-#[inline(always)]
-fn first_in(pool: &[u32], block: u32) -> Option<Found> {
-    let first = block * BLOCK;
-    for slot in first.max(1)..=(first + BLOCK - 1).min(slots_of(pool)) {
+/// "the lowest slot with an allowed kind, and there the lowest kind"
+#[inline]
+fn first_found(pool: &[u32]) -> Option<Found> {
+    for slot in 1..=slots_of(pool) {
         let v = read(pool, slot);
         if !is_inner(v) {
             continue;
@@ -392,19 +271,17 @@ fn first_in(pool: &[u32], block: u32) -> Option<Found> {
     None
 }
 
-/// The first allowed step of a pool without what was read; slot 0 if there is none.
+/// The same without what was read; slot 0 if no step is allowed.
 pub fn first_allowed(pool: &[u32]) -> (u32, u32) {
-    Awake::everywhere(pool).first_found(pool).map_or((0, 0), |found| (found.slot, found.kind))
+    first_found(pool).map_or((0, 0), |found| (found.slot, found.kind))
 }
 
 pub fn settle(pool: &mut [u32], budget: u32) -> Answer {
-    let mut awake = Awake::everywhere(pool);
     let mut steps = 0;
-    while let Some(found) = awake.first_found(pool) {
+    while let Some(found) = first_found(pool) {
         if steps == budget {
             return Answer { code: code::BUDGET_SPENT, number: steps };
         }
-        awake.wake_for(pool, &found);
         effect(pool, found.slot, &found.around, found.kind);
         steps += 1;
     }

@@ -1,10 +1,7 @@
 //! Nanoseconds of the library, of its cousin, and of what a user would pick instead: same machine, same input, all built
 //! for release. In brackets, how many times a contestant's time the library takes.
 
-mod limit;
-mod picture;
 mod sets;
-mod sizes;
 
 use chromatic::{Command, Kind};
 use sets::{all, pools, Set, Work};
@@ -76,7 +73,6 @@ fn line(what: &str, times: &[(&str, f64)]) {
 }
 
 /// What is timed, after something that is not.
-#[derive(Clone, Copy)]
 struct Race<'a> {
     what: &'a str,
     before: &'a Work,
@@ -89,19 +85,14 @@ struct Race<'a> {
 
 /// Times a unit of the race's work. All sets hold the same keys before and after: `home` inserts what may be gone.
 fn race(sets: &mut [Box<dyn Set>], home: &Work, race: Race) {
-    race_in_turn(sets, home, &[race]);
-}
-
-/// The same of races that differ in their commands alone: a set's samples take them in turn, each after the one before it.
-fn race_in_turn(sets: &mut [Box<dyn Set>], home: &Work, races: &[Race]) {
-    let Race { what, work, units, net, .. } = races[0];
+    let Race { what, before, work, units, net } = race;
     let empty = Work::empty_calls(work.calls());
-    let again = |set: &mut dyn Set, before: &Work| {
+    let again = |set: &mut dyn Set| {
         set.restore();
         set.run(before);
     };
-    let sample = |set: &mut dyn Set, before: &Work, work: &Work| {
-        again(set, before);
+    let sample = |set: &mut dyn Set, work: &Work| {
+        again(set);
         clocked(set, |set| set.run(work))
     };
     sets.iter_mut().for_each(|set| set.keep());
@@ -111,25 +102,19 @@ fn race_in_turn(sets: &mut [Box<dyn Set>], home: &Work, races: &[Race]) {
             // An audit's time depends on what the processor has learned of the pool, so as many of them are timed in turn with the work, after
             // the same things. Each has its own lower quartile: that of the differences would be where the audits met something else.
             spell(works, || {
-                let Race { before, work, .. } = races[audits.len() % races.len()];
-                audits.push(if net && set.pooled().is_some() { sample(set.as_mut(), before, &empty) } else { 0.0 });
-                sample(set.as_mut(), before, work)
+                audits.push(if net && set.pooled().is_some() { sample(set.as_mut(), &empty) } else { 0.0 });
+                sample(set.as_mut(), work)
             });
         }
     }
     let mut good = vec![];
     for set in sets.iter_mut() {
-        set.restore();
-        set.run(home);
-        let one = |race: &Race| {
-            again(set.as_mut(), race.before);
-            set.run(race.work)
-        };
-        good.push(races.iter().map(one).collect::<Vec<u64>>());
+        again(set.as_mut());
+        good.push(set.run(work));
         set.restore();
         set.run(home);
     }
-    assert!(good.iter().all(|g| *g == good[0]), "{what}: the contestants do not agree: {good:?}");
+    assert!(good.iter().all(|&g| g == good[0]), "{what}: the contestants do not agree: {good:?}");
     let mut times = vec![];
     for (set, (works, audits)) in sets.iter().zip(&mut samples) {
         times.push((set.name(), (typical(works) - typical(audits)) / units as f64));
@@ -154,11 +139,6 @@ fn race_calls(what: &str, sets: &mut [Box<dyn Set>], before: impl Fn(&mut dyn Se
     }
     let times: Vec<_> = pools.iter_mut().map(|(set, samples)| (set.name(), typical(samples))).collect();
     line(what, &times);
-}
-
-/// So many ascending keys, far enough apart for others between them.
-fn spread(count: usize) -> Vec<u32> {
-    (0..count as u32).map(|i| i * 997 + 13).collect()
 }
 
 fn each(keys: &[u32], command: fn(u32) -> Command) -> Vec<Command> {
@@ -217,7 +197,7 @@ fn steps_from(words: &[u32]) -> Vec<Command> {
 
 fn table(count: usize, slots: usize) {
     let mut rng = Rng(88_172_645_463_325_252);
-    let spread = spread(count);
+    let spread: Vec<u32> = (0..count as u32).map(|i| i * 997 + 13).collect();
     let keys = rng.shuffled(&spread);
     let mut sets = all(slots);
     let fill = Work::new(each(&keys, insert), 256);
@@ -256,7 +236,6 @@ fn table(count: usize, slots: usize) {
     race(&mut sets, &back, Race { what: &what, before: &gone, work: &back, units: back.len(), net: true });
     let what = format!("delete, {share} of the keys (net)");
     race(&mut sets, &back, Race { what: &what, before: &back, work: &gone, units: gone.len(), net: true });
-    anew_rows(&keys, slots, moved.len());
     if count > SPANNED {
         span_rows(&mut sets[..3], &mut rng, &spread);
     }
@@ -271,41 +250,6 @@ fn table(count: usize, slots: usize) {
     race_pools("report's seventh number, a call", &mut sets, |set| set.pooled().map_or(0, |p| (p.report)(black_box(&p.words), 7)));
     saved_rows(&keys, slots);
     ledger_rows(&mut rng, count, slots);
-}
-
-/// Insert and delete with other keys each time, as many at once as the rows before, until as many are drawn as a mix has. The set is each time
-/// the one that it was: what the time before took comes back first, and what it brought goes, untimed. So of the keys whose ways are timed
-/// none was looked for just before.
-fn anew_rows(keys: &[u32], slots: usize, at_once: usize) {
-    let mut rng = Rng(2_463_534_242);
-    let mut sets = all(slots);
-    let settle = settle(usize::MAX);
-    let settled = |sets: &mut [Box<dyn Set>], work: &Work| {
-        sets.iter_mut().for_each(|set| assert_eq!(set.run(work), work.len() as u64, "{}", set.name()));
-        sets[..2].iter_mut().for_each(|set| assert_eq!(set.run(&settle), 1, "{}", set.name()));
-    };
-    let (some, rest) = keys.split_at(keys.len() - at_once);
-    settled(&mut sets, &Work::new(each(some, insert), 256));
-    // Numbers between the keys: no two of them are the same, and none is a key.
-    let mut between = keys.repeat(MIX / keys.len());
-    between.iter_mut().enumerate().for_each(|(i, key)| *key += 1 + (i / keys.len()) as u32);
-    let new: Vec<Vec<u32>> = rng.shuffled(&between).chunks_exact(at_once).map(<[u32]>::to_vec).collect();
-    race_anew("insert", &mut sets, &new, insert, delete);
-    settled(&mut sets, &Work::new(each(rest, insert), 256));
-    let gone: Vec<Vec<u32>> = new.iter().map(|_| rng.shuffled(keys)[..at_once].to_vec()).collect();
-    race_anew("delete", &mut sets, &gone, delete, insert);
-}
-
-/// Times `timed` of one list of keys after the other; `undone` makes it as if it had not been.
-fn race_anew(name: &str, sets: &mut [Box<dyn Set>], lists: &[Vec<u32>], timed: fn(u32) -> Command, undone: fn(u32) -> Command) {
-    let what = &format!("{name}, {} keys drawn anew (net)", lists[0].len());
-    let works = |command| lists.iter().map(|keys| Work::new(each(keys, command), 256)).collect::<Vec<_>>();
-    let (forth, back) = (works(timed), works(undone));
-    // The first comes after the last, when all have had their turn.
-    let before = back.iter().cycle().skip(back.len() - 1);
-    let races: Vec<Race> =
-        forth.iter().zip(before).map(|(work, before)| Race { what, before, work, units: work.len(), net: true }).collect();
-    race_in_turn(sets, &Work::new(each(&lists.concat(), undone), 256), &races);
 }
 
 /// Keys that the spans of a row have together, at most, and those that each of them has.
@@ -429,18 +373,18 @@ fn ledger_rows(rng: &mut Rng, count: usize, slots: usize) {
 
 const CHAINED_SLOTS: u32 = 1023;
 
-/// The saved form of (C + 1) / 2 keys in C slots: half of them in a chain to the left below the root, half in one to the right, every inner
-/// edge red, every leaf of weight `level`. Of 1,023 slots it is 256 edges from the root to the first leaf and to the last. The root is slot 1,
-/// and kind 1's condition holds there.
-fn two_chains(slots: u32, level: u32) -> Vec<u8> {
-    let keys = slots.div_ceil(2);
-    let half = keys / 2;
+/// The saved form of 512 keys in 1,023 slots: half of them in a chain to the left below the root, half in one to the right, every inner
+/// edge red, every leaf of weight `level`. From the root it is 256 edges to the first leaf and to the last. The root is slot 1, and kind 1's
+/// condition holds there.
+fn two_chains(level: u32) -> Vec<u8> {
+    const KEYS: u32 = CHAINED_SLOTS.div_ceil(2);
+    const HALF: u32 = KEYS / 2;
     let (red, leaf) = (1, 2 * level);
-    let mut numbers = vec![slots, 2 * keys - 1, 3, half - 1];
-    (0..half - 1).rev().for_each(|router| numbers.extend([red, router]));
-    (0..half).for_each(|key| numbers.extend([leaf, key]));
-    (half..keys - 1).for_each(|key| numbers.extend([red, key, leaf, key]));
-    numbers.extend([leaf, keys - 1]);
+    let mut numbers = vec![CHAINED_SLOTS, 2 * KEYS - 1, 3, HALF - 1];
+    (0..HALF - 1).rev().for_each(|router| numbers.extend([red, router]));
+    (0..HALF).for_each(|key| numbers.extend([leaf, key]));
+    (HALF..KEYS - 1).for_each(|key| numbers.extend([red, key, leaf, key]));
+    numbers.extend([leaf, KEYS - 1]);
     let mut bytes = vec![];
     for mut number in numbers {
         while number >= 0x80 {
@@ -459,7 +403,7 @@ const MOST_LEVEL: u32 = 255;
 /// does not ask for it.
 fn level_rows() {
     let mut sets = pools(CHAINED_SLOTS as usize);
-    let saved = two_chains(CHAINED_SLOTS, MOST_LEVEL);
+    let saved = two_chains(MOST_LEVEL);
     for set in sets.iter_mut() {
         assert_eq!(set.load_from(&saved), CHAINED_SLOTS.into(), "{}", set.name());
         assert_eq!(set.pooled().map(|p| (p.report)(&p.words, 2)), Some(MOST_LEVEL.into()), "{}", set.name());
@@ -476,29 +420,11 @@ fn level_rows() {
     race_pools("report's second number, a call", &mut sets, |set| set.pooled().map_or(0, |p| (p.report)(black_box(&p.words), 2)));
 }
 
-/// What `host/bench` hands on: `--sizes`, for the two last tables alone, and `--picture FILE`.
 fn main() {
-    let (mut sizes_alone, mut picture) = (false, None);
-    let mut words = std::env::args().skip(1);
-    while let Some(word) = words.next() {
-        match word.as_str() {
-            "--sizes" => sizes_alone = true,
-            "--picture" => picture = words.next(),
-            _ => panic!("{word} is not known"),
-        }
-    }
     println!("in brackets: the library's time divided by that contestant's");
     println!("net: the audit that begins every call of a pool is taken off; all told: it is counted");
-    if !sizes_alone {
-        for (keys, slots) in TABLES {
-            table(keys, slots);
-        }
-        level_rows();
+    for (keys, slots) in TABLES {
+        table(keys, slots);
     }
-    let rows = sizes::table();
-    limit::table();
-    if let Some(file) = picture {
-        std::fs::write(&file, picture::svg(&rows)).unwrap_or_else(|why| panic!("{file} is not written: {why}"));
-        println!("cost by size, drawn: {file}");
-    }
+    level_rows();
 }

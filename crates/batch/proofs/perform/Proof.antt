@@ -20,26 +20,14 @@ search-under-requires c κs = search rules
 enum-told-2 : tie.Need-enum-told-2
 enum-told-2 c = search rules
 
-apart-requires : tie.Need-apart-requires
-apart-requires c κs = search rules
-
 insert-under-requires : tie.Need-insert-under-requires
 insert-under-requires c κs = search rules
-
-handed-back-requires : tie.Need-handed-back-requires
-handed-back-requires c κs = search rules
 
 enum-told-3 : tie.Need-enum-told-3
 enum-told-3 c = search rules
 
-apart-requires-2 : tie.Need-apart-requires-2
-apart-requires-2 c κs = search rules
-
 delete-under-requires : tie.Need-delete-under-requires
 delete-under-requires c κs = search rules
-
-handed-back-requires-2 : tie.Need-handed-back-requires-2
-handed-back-requires-2 c κs = search rules
 
 enum-told-4 : tie.Need-enum-told-4
 enum-told-4 c = search rules
@@ -68,14 +56,8 @@ count-under-requires c κs = search rules
 enum-told-8 : tie.Need-enum-told-8
 enum-told-8 c = search rules
 
-apart-requires-3 : tie.Need-apart-requires-3
-apart-requires-3 c κs = search rules
-
 delete-span-under-requires : tie.Need-delete-span-under-requires
 delete-span-under-requires c κs = search rules
-
-handed-back-requires-3 : tie.Need-handed-back-requires-3
-handed-back-requires-3 c κs = search rules
 
 same_length : tie.Need-same-length
 same_length c = search rules
@@ -89,20 +71,14 @@ same-length-2 c = search rules
 
 returns-2 : tie.Need-returns-2
 unfolding perform_on operated
-returns-2 c =
-    let done = c.before.before.before in
-    let header = done.before in
-    rw (header.before.before.enum-told2.given.1, c.handed_back.ensures) (rw header.apart.ensures at done.insert_under.ensures)
+returns-2 c = rw c.before.before.before.before.enum-told2.given.1 c.before.before.insert_under.ensures
 
 same-length-3 : tie.Need-same-length-3
 same-length-3 c = search rules
 
 returns-3 : tie.Need-returns-3
 unfolding perform_on operated
-returns-3 c =
-    let done = c.before.before.before in
-    let header = done.before in
-    rw (header.before.before.enum-told3.given.1, c.handed-back2.ensures) (rw header.apart2.ensures at done.delete_under.ensures)
+returns-3 c = rw c.before.before.before.before.enum-told3.given.1 c.before.before.delete_under.ensures
 
 same-length-4 : tie.Need-same-length-4
 same-length-4 c = search rules
@@ -137,10 +113,7 @@ same-length-8 c = search rules
 
 returns-8 : tie.Need-returns-8
 unfolding perform_on operated
-returns-8 c =
-    let done = c.before.before.before in
-    let header = done.before in
-    rw (header.before.before.enum-told8.given.1, c.handed-back3.ensures) (rw header.apart3.ensures at done.delete_span_under.ensures)
+returns-8 c = rw c.before.before.before.before.enum-told8.given.1 c.before.before.delete_span_under.ensures
 
 pub perform-spec : {M : Type 1} → statement M
 perform-spec =
@@ -149,13 +122,9 @@ perform-spec =
     enum_told
     search-under-requires
     enum-told-2
-    apart-requires
     insert-under-requires
-    handed-back-requires
     enum-told-3
-    apart-requires-2
     delete-under-requires
-    handed-back-requires-2
     enum-told-4
     step-under-requires
     enum-told-5
@@ -165,9 +134,7 @@ perform-spec =
     enum-told-7
     count-under-requires
     enum-told-8
-    apart-requires-3
     delete-span-under-requires
-    handed-back-requires-3
     same_length
     returns
     same-length-2

@@ -21,7 +21,7 @@ last-argument-requires : tie.Need-last-argument-requires
 last-argument-requires c κs = search rules
 
 returns : tie.Need-returns
-returns c = sym (first_wrong _ _ _ _ (sym c.before.before.before.number.ensures ∙ c.before.in_first.given.1))
+returns c = sym (first_wrong _ _ _ _ (sym c.before.before.before.number.ensures ∙ c.before.in-first.given.1))
 
 returns-2 : tie.Need-returns-2
 returns-2 c =

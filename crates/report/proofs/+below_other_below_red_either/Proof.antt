@@ -3,7 +3,6 @@
 -- `left` is not 0, since the tree that stands there is at most `left` nodes deep: so the measure is twice `left`, and one more for
 -- `either`, which calls the two with its own `left`. Assumes nothing.
 use mathlib.Core.Path.{sym, ◌∙◌}
-use mathlib.Core.Logic.{◌≢◌, ⊎_elim}
 use Prim.Native.Nat.{ℕ, ◌+◌, ◌*◌, ◌≤◌, ◌<◌}
 use native.Mathlib.Omega.{arith}
 use borrow.Author.Rules.{rules}
@@ -11,10 +10,9 @@ use borrow.Fn.Kinds.{In}
 use borrow.Fn.PlainCycle.{Measures, is, falls, and}
 use Rattle.tree.proofs.Tests.{one_most}
 use Rattle.slots.proofs.get_slot.Reads as get-slot-reads
-use Rattle.pool.specs.Walks.{most_sum}
 use Rattle.pool.proofs.Standing.{standing_live, standing_node}
-use Rattle.report.specs.Counted.{counted_in, Counts}
-use Rattle.report.proofs.Counting.{counts_leaf, counts_node, red_inner, counts_red, counts_other, counted_small, excess_low, nodes_inside, added_fits}
+use Rattle.report.specs.Counted.{reds_in, Counts}
+use Rattle.report.proofs.Counting.{counts_leaf, counts_node, counts_red, reds_leaf, reds_node, by_red, by_other, reds_small, reds_inside, reds_fit}
 use Rattle.report.proofs.below_other.Reads as below_other
 use Rattle.report.proofs.below_other.Kinds as below-other-kinds
 use Rattle.report.proofs.+below_other_below_red_either.Lts-below_other as below-other-lts
@@ -24,15 +22,12 @@ use Rattle.report.proofs.+below_other_below_red_either.Lts-below_red as below-re
 use Rattle.report.proofs.either.Reads as either
 use Rattle.report.proofs.either.Kinds as either-kinds
 use Rattle.report.proofs.+below_other_below_red_either.Lts-either as either-lts
-use Rattle.report.proofs.excess.Reads as excess-reads
+use Rattle.report.proofs.adding.Reads as adding-reads
 use Rattle.report.proofs.is_red.Reads as is-red-reads
 use Rattle.report.proofs.joined.Reads as joined-reads
 use Rattle.report.proofs.lone_leaf.Reads as lone-leaf-reads
-use Rattle.report.proofs.nodes_in.Reads as nodes-in-reads
 use Rattle.report.proofs.outside.Reads as outside-reads
 use Rattle.report.proofs.red_edge.Reads as red-edge-reads
-use Rattle.report.proofs.with_overs.Reads as with-overs-reads
-use Rattle.report.proofs.with_reds.Reads as with-reds-reads
 use Rattle.report.proofs.+below_other_below_red_either.{statement}
 use Rattle.report.proofs.+below_other_below_red_either.Tie.{close}
 
@@ -64,72 +59,52 @@ abbrev either-below : ℕ → In 1 either-kinds.ps
 either-below t = and 1 either-kinds.ps (falls 1 either-kinds.ps ◌<◌ μ-either t) either.Pre
 
 abbrev below-other-claims : ℕ → below-other-lts.Claims
-below-other-claims t = (get-slot-reads.Asked, get-slot-reads.Learnt, lone-leaf-reads.Asked, lone-leaf-reads.Learnt, is-red-reads.Asked, is-red-reads.Learnt, either-below t, either.Post, joined-reads.Asked, joined-reads.Learnt, excess-reads.Asked, excess-reads.Learnt, nodes-in-reads.Asked, nodes-in-reads.Learnt, outside-reads.Asked, outside-reads.Learnt, with-overs-reads.Asked, with-overs-reads.Learnt)
+below-other-claims t = (get-slot-reads.Asked, get-slot-reads.Learnt, lone-leaf-reads.Asked, lone-leaf-reads.Learnt, is-red-reads.Asked, is-red-reads.Learnt, either-below t, either.Post, joined-reads.Asked, joined-reads.Learnt)
 
 abbrev below-red-claims : ℕ → below-red-lts.Claims
-below-red-claims t = (get-slot-reads.Asked, get-slot-reads.Learnt, is-red-reads.Asked, is-red-reads.Learnt, either-below t, either.Post, joined-reads.Asked, joined-reads.Learnt, red-edge-reads.Asked, red-edge-reads.Learnt, nodes-in-reads.Asked, nodes-in-reads.Learnt, outside-reads.Asked, outside-reads.Learnt, with-reds-reads.Asked, with-reds-reads.Learnt)
+below-red-claims t = (get-slot-reads.Asked, get-slot-reads.Learnt, lone-leaf-reads.Asked, lone-leaf-reads.Learnt, is-red-reads.Asked, is-red-reads.Learnt, either-below t, either.Post, joined-reads.Asked, joined-reads.Learnt, red-edge-reads.Asked, red-edge-reads.Learnt, outside-reads.Asked, outside-reads.Learnt, adding-reads.Asked, adding-reads.Learnt)
 
--- What below_red has of its node without the edge to it, whose children are there, since no leaf is below a red edge; and how many
--- conflicts it adds.
-module _ (t : ℕ) where
-  inner : (c : below-red-lts.After-get-slot (below-red-claims t) (below-red-at t) below-red.Post) → c.get_slot.result.left ≢ 0
-  inner c = red_inner c.before.before.requires.1.0 c.get_slot.ensures c.before.before.requires.1.1
+red-node : (t : ℕ) (c : below-red-lts.After-joined (below-red-claims t) (below-red-at t) below-red.Post)
+    → Counts (λ w u. reds_in c.before.before.before.before.before.before.before.before.before.args.n 1 u) c.before.before.before.before.before.before.before.before.before.args.pool.now c.before.before.before.before.before.before.before.before.before.args.s c.before.before.before.before.before.before.before.before.before.args.n c.before.before.before.before.before.before.before.before.before.args.left c.joined.result
+red-node t c = counts_node c.before.before.before.before.before.before.before.get_slot.ensures (reds_in _) (reds_in _ 1) (reds_node _) c.before.before.before.before.before.if1.false c.before.before.before.either.ensures c.before.either2.ensures c.joined.ensures
 
-  red-node : (c : below-red-lts.After-joined (below-red-claims t) (below-red-at t) below-red.Post)
-      → Counts (λ w u. counted_in c.before.before.before.before.before.before.before.args.n 1 u) c.before.before.before.before.before.before.before.args.pool.now c.before.before.before.before.before.before.before.args.s c.before.before.before.before.before.before.before.args.n c.before.before.before.before.before.before.before.args.left c.joined.result
-  red-node c = counts_node c.before.before.before.before.before.get_slot.ensures (inner c.before.before.before.before.before) c.before.before.before.either.ensures c.before.either2.ensures c.joined.ensures
-
-  red-own : (c : below-red-lts.After-red-edge2 (below-red-claims t) (below-red-at t) below-red.Post) → c.before.red_edge.result + c.red-edge2.result ≤ most_sum
-  red-own c = omega (arith, c.before.red_edge.ensures, c.red-edge2.ensures, one_most c.before.before.before.before.before.before.is_red.result, one_most c.before.before.before.before.is-red2.result)
-
-  -- What below_other has before the edge to it, which is no heavier than the audit allows.
-  under : (c : below-other-lts.Joined1 (below-other-claims t) (below-other-at t) below_other.Post)
-      → Counts (λ w u. counted_in c.before.before.before.before.args.n 1 u) c.before.before.before.before.args.pool.now c.before.before.before.before.args.s c.before.before.before.before.args.n c.before.before.before.before.args.left c.if1.u
-  under c = ⊎_elim
-      (λ w. rw w.2 (counts_leaf c.before.before.get_slot.ensures w.0.taken w.1.ensures))
-      (λ w. rw w.6 (counts_node c.before.before.get_slot.ensures w.0.left w.2.ensures w.4.ensures w.5.ensures))
-      c.if1.branch
-
-  low : (c : below-other-lts.After-excess (below-other-claims t) (below-other-at t) below_other.Post) → c.excess.result ≤ most_sum
-  low c = excess_low c.before.before.before.before.before.requires.1.0 c.before.before.before.get_slot.ensures c.excess.ensures
+red-own : (t : ℕ) (c : below-red-lts.After-red-edge2 (below-red-claims t) (below-red-at t) below-red.Post) → c.before.red_edge.result + c.red-edge2.result ≤ 2
+red-own t c = omega (arith, c.before.red_edge.ensures, c.red-edge2.ensures, one_most c.before.before.before.before.before.before.is_red.result, one_most c.before.before.before.before.is-red2.result)
 
 pub +below-other-below-red-either-spec : {M : Type 1} → statement M
 +below-other-below-red-either-spec = close μ-below-other μ-below-red μ-either
     (λ t. below-other-lts.spec (below-other-claims t) (below-other-at t) below_other.Post
     (λ c κs. search rules)
     (λ c κs. search rules)
+    (λ c. counts_leaf c.before.before.before.get_slot.ensures (reds_in _ 1) (reds_leaf _ 1) c.before.if1.true c.lone_leaf.ensures)
     (λ c κs. search rules)
-    (λ c. standing_live c.before.before.before.before.before.requires.1.0)
-    (λ c κs. let K = standing_node c.before.before.before.before.before.requires.1.0 c.before.before.before.get_slot.ensures c.before.if1.false in (omega (arith, c.before.before.before.before.before.requires.0), (K.on_left, c.is_red.ensures)))
+    (λ c. standing_live c.before.before.before.before.before.requires.1)
+    (λ c κs. let K = standing_node c.before.before.before.before.before.requires.1 c.before.before.before.get_slot.ensures c.before.if1.false in (omega (arith, c.before.before.before.before.before.requires.0), (K.on_left, c.is_red.ensures)))
     (λ c κs. search rules)
-    (λ c. standing_live c.before.before.before.before.before.before.before.requires.1.0)
-    (λ c κs. let K = standing_node c.before.before.before.before.before.before.before.requires.1.0 c.before.before.before.before.before.get_slot.ensures c.before.before.before.if1.false in (omega (arith, c.before.before.before.before.before.before.before.requires.0), (K.on_right, c.is-red2.ensures)))
-    (λ c κs. let K = standing_node c.before.before.before.before.before.before.before.before.requires.1.0 c.before.before.before.before.before.before.get_slot.ensures c.before.before.before.before.if1.false in (counted_small K.on_left c.before.before.either.ensures, counted_small K.on_right c.either2.ensures))
-    (λ c κs. search rules)
-    (λ c κs. search rules)
-    (λ c κs. nodes_inside c.before.before.before.before.before.before.requires.1.0 (under t c.before.before) c.nodes_in.ensures)
-    (λ c. let own = low t c.before.before in omega (arith, (added_fits c.before.before.before.before.before.before.before.requires.1.0 _ (under t c.before.before.before) own own c.outside.ensures).distance_few))
-    (λ c κs. let own = low t c.before.before in added_fits c.before.before.before.before.before.before.before.requires.1.0 _ (under t c.before.before.before) (omega (arith, own)) own c.outside.ensures)
-    (λ c. counts_other (under t c.before.before.before.before) c.before.before.nodes_in.ensures c.before.outside.ensures c.before.before.before.before.before.before.get_slot.ensures c.before.before.before.before.before.before.before.before.requires.1.1 c.before.before.before.excess.ensures c.with_overs.ensures))
+    (λ c. standing_live c.before.before.before.before.before.before.before.requires.1)
+    (λ c κs. let K = standing_node c.before.before.before.before.before.before.before.requires.1 c.before.before.before.before.before.get_slot.ensures c.before.before.before.if1.false in (omega (arith, c.before.before.before.before.before.before.before.requires.0), (K.on_right, c.is-red2.ensures)))
+    (λ c κs. let K = standing_node c.before.before.before.before.before.before.before.before.requires.1 c.before.before.before.before.before.before.get_slot.ensures c.before.before.before.before.if1.false in (reds_small K.on_left c.before.before.either.ensures, reds_small K.on_right c.either2.ensures))
+    (λ c. counts_node c.before.before.before.before.before.before.before.get_slot.ensures (reds_in _) (reds_in _ 1) (reds_node _) c.before.before.before.before.before.if1.false c.before.before.before.either.ensures c.before.either2.ensures c.joined.ensures))
     (λ t. below-red-lts.spec (below-red-claims t) (below-red-at t) below-red.Post
     (λ c κs. search rules)
     (λ c κs. search rules)
-    (λ c. standing_live c.before.before.before.requires.1.0)
-    (λ c κs. let K = standing_node c.before.before.before.requires.1.0 c.before.get_slot.ensures (inner t c.before) in (omega (arith, c.before.before.before.requires.0), (K.on_left, c.is_red.ensures)))
+    (λ c. counts_leaf c.before.before.before.get_slot.ensures (reds_in _ 0) (reds_leaf _ 0) c.before.if1.true c.lone_leaf.ensures)
     (λ c κs. search rules)
-    (λ c. standing_live c.before.before.before.before.before.requires.1.0)
-    (λ c κs. let K = standing_node c.before.before.before.before.before.requires.1.0 c.before.before.before.get_slot.ensures (inner t c.before.before.before) in (omega (arith, c.before.before.before.before.before.requires.0), (K.on_right, c.is-red2.ensures)))
-    (λ c κs. let K = standing_node c.before.before.before.before.before.before.requires.1.0 c.before.before.before.before.get_slot.ensures (inner t c.before.before.before.before) in (counted_small K.on_left c.before.before.either.ensures, counted_small K.on_right c.either2.ensures))
+    (λ c. standing_live c.before.before.before.before.before.requires.1)
+    (λ c κs. let K = standing_node c.before.before.before.before.before.requires.1 c.before.before.before.get_slot.ensures c.before.if1.false in (omega (arith, c.before.before.before.before.before.requires.0), (K.on_left, c.is_red.ensures)))
+    (λ c κs. search rules)
+    (λ c. standing_live c.before.before.before.before.before.before.before.requires.1)
+    (λ c κs. let K = standing_node c.before.before.before.before.before.before.before.requires.1 c.before.before.before.before.before.get_slot.ensures c.before.before.before.if1.false in (omega (arith, c.before.before.before.before.before.before.before.requires.0), (K.on_right, c.is-red2.ensures)))
+    (λ c κs. let K = standing_node c.before.before.before.before.before.before.before.before.requires.1 c.before.before.before.before.before.before.get_slot.ensures c.before.before.before.before.if1.false in (reds_small K.on_left c.before.before.either.ensures, reds_small K.on_right c.either2.ensures))
     (λ c κs. search rules)
     (λ c κs. search rules)
     (λ c. omega (arith, red-own t c))
-    (λ c κs. search rules)
-    (λ c κs. nodes_inside c.before.before.before.before.before.before.before.before.before.before.requires.1.0 (red-node t c.before.before.before) c.nodes_in.ensures)
-    (λ c. let own = red-own t c.before.before in omega (arith, (added_fits c.before.before.before.before.before.before.before.before.before.before.before.requires.1.0 _ (red-node t c.before.before.before.before) own own c.outside.ensures).distance_few))
-    (λ c κs. let own = red-own t c.before.before in added_fits c.before.before.before.before.before.before.before.before.before.before.before.requires.1.0 _ (red-node t c.before.before.before.before) own own c.outside.ensures)
-    (λ c. counts_red (red-node t c.before.before.before.before.before) c.before.before.nodes_in.ensures c.before.outside.ensures c.before.before.before.before.before.before.before.before.before.before.get_slot.ensures c.before.before.before.before.before.before.before.before.before.before.before.before.requires.1.1 (inner t c.before.before.before.before.before.before.before.before.before.before) c.before.before.before.before.before.before.before.before.before.is_red.ensures c.before.before.before.before.before.before.before.is-red2.ensures (rw (c.before.before.before.before.red_edge.ensures, c.before.before.before.red-edge2.ensures) at c.with_reds.ensures)))
+    (λ c κs. reds_inside c.before.before.before.before.before.before.before.before.before.before.before.requires.1 (red-node t c.before.before))
+    (λ c. omega (arith, (reds_fit c.before.before.before.before.before.before.before.before.before.before.before.before.requires.1 (red-node t c.before.before.before) (red-own t c.before) c.outside.ensures).distance_fits))
+    (λ c κs. reds_fit c.before.before.before.before.before.before.before.before.before.before.before.before.requires.1 (red-node t c.before.before.before) (red-own t c.before) c.outside.ensures)
+    (λ c. counts_red c.before.before.before.before.before.before.before.before.before.before.before.get_slot.ensures c.before.before.before.before.before.before.before.before.before.if1.false c.before.before.before.before.before.before.before.before.is_red.ensures c.before.before.before.before.before.before.is-red2.ensures (red-node t c.before.before.before.before) c.before.outside.ensures (rw (c.before.before.before.red_edge.ensures, c.before.before.red-edge2.ensures) at c.adding.ensures)))
     (λ t. either-lts.spec (below-red-below t, below-red.Post, below-other-below t, below_other.Post) (either-at t) either.Post
-    (λ c κs. (omega (arith, c.before.before.requires.0), (c.before.before.requires.1.0, sym c.if1.true ∙ c.before.before.requires.1.1)))
-    (λ c κs. (omega (arith, c.before.before.requires.0), (c.before.before.requires.1.0, sym c.if1.false ∙ c.before.before.requires.1.1)))
-    (λ c. c.below_red.ensures)
-    (λ c. c.below_other.ensures))
+    (λ c κs. (omega (arith, c.before.before.requires.0), c.before.before.requires.1.0))
+    (λ c κs. (omega (arith, c.before.before.requires.0), c.before.before.requires.1.0))
+    (λ c. by_red (sym c.before.if1.true ∙ c.before.before.before.requires.1.1) c.below_red.ensures)
+    (λ c. by_other (sym c.before.if1.false ∙ c.before.before.before.requires.1.1) c.below_other.ensures))

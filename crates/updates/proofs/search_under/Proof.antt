@@ -12,16 +12,16 @@ returns c = rw (eq-eqb _ _ c.if1.true, search_under)
 descend-requires : tie.Need-descend-requires
 descend-requires c κs = search rules
 
-get-part-requires : tie.Need-get-part-requires
-get-part-requires c κs = search rules
+get-slot-requires : tie.Need-get-slot-requires
+get-slot-requires c κs = search rules
 
 returns-2 : tie.Need-returns-2
 unfolding search_under found_at
-returns-2 c = rw (ne_eqb _ _ c.before.before.before.if1.false, search_under, eq-eqb _ _ (rw (c.before.get_part.ensures, c.before.before.descend.ensures) at c.if2.true), found_at, c.before.before.descend.ensures)
+returns-2 c = rw (ne_eqb _ _ c.before.before.before.before.if1.false, search_under, eq-eqb _ _ (rw (c.before.before.get_slot.ensures, c.before.before.before.descend.ensures) at c.if2.true), found_at, c.before.before.before.descend.ensures)
 
 returns-3 : tie.Need-returns-3
 unfolding search_under found_at
-returns-3 c = rw (ne_eqb _ _ c.before.before.before.if1.false, search_under, ne_eqb _ _ (rw (c.before.get_part.ensures, c.before.before.descend.ensures) at c.if2.false), found_at)
+returns-3 c = rw (ne_eqb _ _ c.before.before.before.before.if1.false, search_under, ne_eqb _ _ (rw (c.before.before.get_slot.ensures, c.before.before.before.descend.ensures) at c.if2.false), found_at)
 
 pub search-under-spec : {M : Type 1} → statement M
-search-under-spec = tie.close (tie.spec returns descend-requires get-part-requires returns-2 returns-3)
+search-under-spec = tie.close (tie.spec returns descend-requires get-slot-requires returns-2 returns-3)

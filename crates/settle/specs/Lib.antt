@@ -1,5 +1,0 @@
-pub mod Awake
-pub mod Scanning
-pub mod Waking
-pub mod Settling
-pub mod Looks
