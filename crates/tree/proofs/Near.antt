@@ -225,12 +225,12 @@ module _ (j : Kind) (x : ℕ) where
       (or_right (at wa a) (at wb b || T) (at (suc wb) b || T) falls)
 
 -- Of the step in the whole tree. Its edge weighs 1 again, and only a test at its root would mind; so is the limit asked only there.
-at_slot : {s w q : ℕ} {u t : Tree} → At s w u q t → slot_of u ≡ s
+at_slot : {s w : ℕ} {u : Tree} {q : ℕ} {t : Tree} → At s w u q t → slot_of u ≡ s
 at_slot (at_root e) = sym e
 at_slot (at_left a) = at_slot a
 at_slot (at_right a) = at_slot a
 
-at_chromatic : {s w q : ℕ} {u t : Tree} → At s w u q t → Chromatic q t → Chromatic w u
+at_chromatic : {s w : ℕ} {u : Tree} {q : ℕ} {t : Tree} → At s w u q t → Chromatic q t → Chromatic w u
 unfolding Chromatic
 at_chromatic (at_root e) c = c
 at_chromatic (at_left a) c = at_chromatic a c.1

@@ -111,13 +111,13 @@ pub data Put (g p w : ℕ) (a : Tree) (q : ℕ) (b : Tree) : ℕ → ℕ → ℕ
       → Put g p w a q b g₀ p₀ w₀ (node v i wl l wr r) w₀ (node v i wl l wr' r')
 
 -- What has been put in its place hangs there.
-pub put_hangs : {s g p w q g₀ p₀ w₀ w₁ : ℕ} {a b t t₁ : Tree} → Put g p w a q b g₀ p₀ w₀ t w₁ t₁ → s ≡ slot_of b → Hangs s q b g p g₀ p₀ w₁ t₁
+pub put_hangs : {s g p w q : ℕ} {a b : Tree} {g₀ p₀ w₀ w₁ : ℕ} {t t₁ : Tree} → Put g p w a q b g₀ p₀ w₀ t w₁ t₁ → s ≡ slot_of b → Hangs s q b g p g₀ p₀ w₁ t₁
 put_hangs put_here e = hangs_here e
 put_hangs (put_left c) e = hangs_left (put_hangs c e)
 put_hangs (put_right c) e = hangs_right (put_hangs c e)
 
 -- A change at s puts what it makes of the subtree there in its place.
-pub put : (f : ℕ → Tree → Hung) {s w g p g₀ p₀ w₀ : ℕ} {u t : Tree} → Hangs s w u g p g₀ p₀ w₀ t → count s t ≤ 1
+pub put : (f : ℕ → Tree → Hung) {s w g p : ℕ} {u : Tree} {g₀ p₀ w₀ : ℕ} {t : Tree} → Hangs s w u g p g₀ p₀ w₀ t → count s t ≤ 1
     → Put g p w u (f w u).0 (f w u).1 g₀ p₀ w₀ t (change_at f s w₀ t).0 (change_at f s w₀ t).1
 unfolding count change_at slot_of
 put f {s} {w} {g} {p} {u} (hangs_here e) n = go u e

@@ -105,12 +105,12 @@ place_right : {x e g p w v k wl wr wr' : ℕ} {l r r' : Tree} → k < x → Plac
 unfolding end_from
 place_right {x} {k = k} h (place d low put end) = place d low (put_right put) (rw (lt-leb x k h, end_from) end)
 
-insert_place : (e g p : ℕ) {x a b w q : ℕ} {t u : Tree} → Ins x a b w t q u → Place x e g p w t q u
+insert_place : {x a b : ℕ} (e g p : ℕ) {w q : ℕ} {t u : Tree} → Ins x a b w t q u → Place x e g p w t q u
 insert_place e g p at_leaf = place e (twig bare bare) put_here refl
 insert_place e g p (in_left {v} h i) = place_left h (insert_place g p v i)
 insert_place e g p (in_right {v} h i) = place_right h (insert_place g p v i)
 
-delete_place : (e g p : ℕ) {x w : ℕ} {t : Tree} {c : Cut} → Del x w t c → Chromatic w t → conflicts t ≡ 0 → over_edges t ≡ 0
+delete_place : {x : ℕ} (e g p : ℕ) {w : ℕ} {t : Tree} {c : Cut} → Del x w t c → Chromatic w t → conflicts t ≡ 0 → over_edges t ≡ 0
     → Place x e g p w t c.weight c.tree
 unfolding Chromatic conflicts over_edges level cut
 delete_place e g p (cut_left {v} {wl} {wr} {r} h) c n o =

@@ -33,7 +33,7 @@ pub data Hangs (s w : ℕ) (u : Tree) (g p : ℕ) : ℕ → ℕ → ℕ → Tree
 abbrev pub HangsIn : (s w : ℕ) → Tree → (g p : ℕ) → Tree → Type 0
 HangsIn s w u g p t = Hangs s w u g p 0 0 1 t
 
-pub hangs_at : {s w g p a b q : ℕ} {u t : Tree} → Hangs s w u g p a b q t → At s w u q t
+pub hangs_at : {s w g p : ℕ} {u : Tree} {a b q : ℕ} {t : Tree} → Hangs s w u g p a b q t → At s w u q t
 hangs_at (hangs_here e) = at_root e
 hangs_at (hangs_left h) = at_left (hangs_at h)
 hangs_at (hangs_right h) = at_right (hangs_at h)
@@ -66,36 +66,36 @@ unfolding Ordered key_of
 root_between lo hi (leaf s k) o = o
 root_between lo hi (node s k wl l wr r) o = omega (arith, ordered_bounds lo (suc k) l o.0, ordered_bounds (suc k) hi r o.1)
 
-pub key_between : (lo hi : ℕ) {s w q : ℕ} {u t : Tree} → Ordered lo hi t → At s w u q t → (lo ≤ key_of u) × (key_of u < hi)
+pub key_between : {s w : ℕ} {u : Tree} (lo hi : ℕ) {q : ℕ} {t : Tree} → Ordered lo hi t → At s w u q t → (lo ≤ key_of u) × (key_of u < hi)
 unfolding Ordered
-key_between lo hi {u} o (at_root e) = root_between lo hi u o
+key_between {u} lo hi o (at_root e) = root_between lo hi u o
 key_between lo hi o (at_left {i} {r} a) = omega (arith, key_between lo (suc i) o.0 a, ordered_bounds (suc i) hi r o.1)
 key_between lo hi o (at_right {i} {l} a) = omega (arith, key_between (suc i) hi o.1 a, ordered_bounds lo (suc i) l o.0)
 
 -- The search for the key at s goes through s: it ends where a search from s on ends.
-pub way_passes : (lo hi : ℕ) {s w q : ℕ} {u t : Tree} → Ordered lo hi t → At s w u q t → reach (key_of u) t ≡ reach (key_of u) u
+pub way_passes : {s w : ℕ} {u : Tree} (lo hi : ℕ) {q : ℕ} {t : Tree} → Ordered lo hi t → At s w u q t → reach (key_of u) t ≡ reach (key_of u) u
 unfolding Ordered
 way_passes lo hi o (at_root e) = refl
-way_passes lo hi {u} o (at_left {v} {i} {wl} {wr} {l} {r} a) =
+way_passes {u} lo hi o (at_left {v} {i} {wl} {wr} {l} {r} a) =
     let b = key_between lo (suc i) o.0 a in
     rw (reach_left (key_of u) v i wl wr l r (omega arith)) (way_passes lo (suc i) o.0 a)
-way_passes lo hi {u} o (at_right {v} {i} {wl} {wr} {l} {r} a) =
+way_passes {u} lo hi o (at_right {v} {i} {wl} {wr} {l} {r} a) =
     let b = key_between (suc i) hi o.1 a in
     rw (reach_right (key_of u) v i wl wr l r (omega arith)) (way_passes (suc i) hi o.1 a)
 
 -- What the descent answers are the slots that s hangs from,
-pub way_is : (lo hi : ℕ) {s w g p a b q : ℕ} {u t : Tree} → Ordered lo hi t → count s t ≤ 1 → Hangs s w u g p a b q t → way_from (key_of u) s a b t ≡ (g, p)
+pub way_is : {s w g p : ℕ} {u : Tree} (lo hi : ℕ) {a b q : ℕ} {t : Tree} → Ordered lo hi t → count s t ≤ 1 → Hangs s w u g p a b q t → way_from (key_of u) s a b t ≡ (g, p)
 unfolding Ordered way_from count slot_of
-way_is lo hi {s} {g} {p} {u} o n (hangs_here e) = go u e
+way_is {s} {g} {p} {u} lo hi o n (hangs_here e) = go u e
   where
     go : (u : Tree) → s ≡ slot_of u → way_from (key_of u) s g p u ≡ (g, p)
     go (leaf v k) e = refl
     go (node v k wl l wr r) e = rw (eq-eqb s v e, way_from)
-way_is lo hi {s} {u} o n (hangs_left {v} {i} h) =
+way_is {s} {u} lo hi o n (hangs_left {v} {i} h) =
     let d = at_count (hangs_at h) in
     let k = key_between lo (suc i) o.0 (hangs_at h) in
     rw (is_other s v (omega arith), le-leb (key_of u) i (omega arith), way_from) (way_is lo (suc i) o.0 (omega arith) h)
-way_is lo hi {s} {u} o n (hangs_right {v} {i} h) =
+way_is {s} {u} lo hi o n (hangs_right {v} {i} h) =
     let d = at_count (hangs_at h) in
     let k = key_between (suc i) hi o.1 (hangs_at h) in
     rw (is_other s v (omega arith), lt-leb (key_of u) i (omega arith), way_from) (way_is (suc i) hi o.1 (omega arith) h)
@@ -106,7 +106,7 @@ pub record Above (s w : ℕ) (u : Tree) (a b q : ℕ) (t : Tree) : Type 0 where
   pub parent : ℕ
   pub hangs : Hangs s w u grand parent a b q t
 
-pub hang : (a b : ℕ) {s w q : ℕ} {u t : Tree} → At s w u q t → Above s w u a b q t
+pub hang : {s w : ℕ} {u : Tree} (a b : ℕ) {q : ℕ} {t : Tree} → At s w u q t → Above s w u a b q t
 hang a b (at_root e) = record { grand = a; parent = b; hangs = hangs_here e }
 hang a b (at_left {v} h) = let c = hang b v h in record { grand = c.grand; parent = c.parent; hangs = hangs_left c.hangs }
 hang a b (at_right {v} h) = let c = hang b v h in record { grand = c.grand; parent = c.parent; hangs = hangs_right c.hangs }
