@@ -36,7 +36,7 @@ one_side lo m hi (leaf s k) o o' = omega arith
 one_side lo m hi (node s k wl l wr r) o o' = omega (arith, ordered_bounds (suc k) m r o.1, ordered_bounds m (suc k) l o'.0)
 
 -- What stands at a slot of a tree: held by the same words, in the same range, and no larger.
-in_ordered : {p₀ q w w' : ℕ} {a b t u : Tree} (lo hi : ℕ) → In p₀ a q b w t w' u → Ordered lo hi t → Ordered lo hi a
+in_ordered : {p₀ q : ℕ} {a b : Tree} {w w' : ℕ} {t u : Tree} (lo hi : ℕ) → In p₀ a q b w t w' u → Ordered lo hi t → Ordered lo hi a
 unfolding Ordered
 in_ordered lo hi top o = o
 in_ordered {a} lo hi (in_left {k = k} {r = r} i) o =
@@ -44,7 +44,7 @@ in_ordered {a} lo hi (in_left {k = k} {r = r} i) o =
 in_ordered {a} lo hi (in_right {k = k} {l = l} i) o =
     ordered_widen (suc k) hi lo hi a (omega (arith, ordered_bounds lo (suc k) l o.0)) (omega arith) (in_ordered (suc k) hi i o.1)
 
-in_small : {p₀ q w w' : ℕ} {a b t u : Tree} → In p₀ a q b w t w' u → size a ≤ size t
+in_small : {p₀ q : ℕ} {a b : Tree} {w w' : ℕ} {t u : Tree} → In p₀ a q b w t w' u → size a ≤ size t
 unfolding size
 in_small top = omega arith
 in_small (in_left i) = omega (arith, in_small i)

@@ -51,6 +51,7 @@ module _ {p : List ℕ} where
 
   pub got : {xs : Puts} {q : List ℕ} {s : ℕ} {b c : Slot} → Wrote p xs q → At p s b → Gets xs s c → count_in s (slots_put xs) ≤ 1 → At q s c
   unfolding count_in
+  got nothing_yet h x n = elim x [ ]
   got (and_at {c = c} w) h last n = at_written (record { from_one = h.from_one; inside = rw (wrote_length w) h.inside; content = refl }) c
   got {s = x} (and_at {s = s} {c = c} w) h (before g) n = at_other (got w h g (omega arith)) s c (λ e. not_same x s (omega (arith, gets_count g)) (sym e))
 
