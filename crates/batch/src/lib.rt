@@ -1,4 +1,6 @@
 // 01, The batch: a call reads the whole batch and audits the pool before anything runs; then the commands run in order.
+#![tactic(auto)]
+
 ghost use Rattle.std.specs.Prelude.{◌≡◌};
 ghost use Rattle.tree.specs.Codes.{code, number_beside};
 ghost use Rattle.encoding.specs.Batch.{batch};
@@ -80,7 +82,7 @@ fn run(pool: &mut [u32], h: Header, bytes: &[u8], answers: &mut [u32])
 }
 
 // A call's own code and number.
-#[derive(Drop)]
+#[derive(Clone, Copy)]
 pub struct Called {
     pub code: u32,
     pub number: u32,

@@ -1,5 +1,7 @@
 // What a host calls: prepare, audit, report, batch, save, load, and the send limit's two, on numbers and lent slices. Each takes any words and
 // any bytes. And one function whose name carries the number of the interface.
+#![tactic(auto)]
+
 ghost use Rattle.std.specs.Prelude.{◌≡◌};
 ghost use Rattle.encoding.specs.Batch.{batch as call};
 ghost use Rattle.format.specs.Audit.{audit_code};

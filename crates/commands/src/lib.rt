@@ -1,4 +1,6 @@
 // 01, The batch: "A command is an operation number and its arguments [..] At most 256 commands. An empty batch is good."
+#![tactic(auto)]
+
 ghost use Rattle.std.specs.Prelude.{◌≡◌};
 ghost use Rattle.encoding.specs.Numbers.{number};
 ghost use Rattle.encoding.specs.Batch.{last_argument, arguments_at, command_at, read_batch};
@@ -64,7 +66,7 @@ fn last_argument(bytes: &[u8], operation: Operation, first: u32, next: usize) ->
 }
 
 // A whole batch: how many commands it has, or the byte at which it goes wrong.
-#[derive(Drop)]
+#[derive(Clone, Copy)]
 pub enum Scanned {
     Commands(usize),
     BadAt(usize),

@@ -1,16 +1,18 @@
 // What stands in a batch's bytes, as types by value: numbers, operations, commands. Their meaning is in specs/.
+#![tactic(auto)]
+
 ghost use Rattle.std.specs.Prelude.{◌≡◌};
 ghost use Rattle.encoding.specs.Operations.{operation_number, arguments, which};
 
 // A number read from bytes: its value and where the next begins, or the place where it goes wrong.
-#[derive(Drop)]
+#[derive(Clone, Copy)]
 pub enum Number {
     Read(u32, usize),
     Wrong(usize),
 }
 
 // 01: "1 search key; 2 insert key; 3 delete key; 4 step slot kind; 5 settle budget." 02 (vii): 6 with a key, 7 and 8 with the two ends of a span.
-#[derive(Drop)]
+#[derive(Clone, Copy)]
 pub enum Operation {
     Search,
     Insert,
@@ -23,7 +25,7 @@ pub enum Operation {
 }
 
 // The operation that a number names, or none.
-#[derive(Drop)]
+#[derive(Clone, Copy)]
 pub enum Which {
     Known(Operation),
     Unknown,
@@ -96,7 +98,7 @@ impl Operation {
 }
 
 // An operation and its arguments; one that the operation does not have is 0.
-#[derive(Drop)]
+#[derive(Clone, Copy)]
 pub struct Command {
     pub operation: Operation,
     pub first: u32,
@@ -104,7 +106,7 @@ pub struct Command {
 }
 
 // A command read from bytes and where the next begins, or the place of its fault.
-#[derive(Drop)]
+#[derive(Clone, Copy)]
 pub enum Reading {
     Next(Command, usize),
     Fault(usize),

@@ -1,5 +1,7 @@
 // 02 (iv): no more than the allowed number of texts. A product above the set: it calls the set's operations and rests on what they promise
 // (crate set's page Promises), and on nothing behind them.
+#![tactic(auto)]
+
 ghost use Rattle.std.specs.Prelude.{◌≡◌, ◌+◌, ◌≤◌, ◌<◌};
 ghost use Rattle.set.specs.Operations.{key_end};
 ghost use Rattle.set.specs.Set.{Passing};

@@ -1,4 +1,6 @@
 // What the program prints, made in lent memory from the bytes that it read: nothing here reads or writes a file.
+#![tactic(auto)]
+
 ghost use Rattle.std.specs.Prelude.{◌+◌, ◌*◌, ◌≤◌, ◌<◌, ◌≡◌, length, take};
 ghost use Rattle.std.proofs.lemmas.List.Edits.{sets};
 ghost use Rattle.encoding.specs.Batch.{most_commands, read_batch};

@@ -1,4 +1,6 @@
 // 02 (i), the reader of the saved form. All bytes are judged before the first word is written: "The reader's pool may hold any words."
+#![tactic(auto)]
+
 ghost use Rattle.std.specs.Prelude.{◌≡◌, eqb, length, ◌+◌, ◌-◌, ◌^◌, ◌≤◌, ◌<◌, min};
 ghost use Rattle.tree.specs.Codes.{most_slots};
 ghost use Rattle.tree.specs.State.{upwards};
@@ -22,7 +24,7 @@ const TWICE: u32 = 2;
 const LAST_WORD: u32 = 4294967295;
 
 // What is found of a tree in the bytes: what a walk over a pool's tree would find, and the place after its numbers.
-#[derive(Drop)]
+#[derive(Clone, Copy)]
 struct Judged {
     walk: Walk,
     next: usize,
@@ -94,7 +96,7 @@ fn ends(bytes: &[u8], at: usize) -> bool
 }
 
 // What is found of the whole set: none that is good; or its L.
-#[derive(Drop)]
+#[derive(Clone, Copy)]
 enum JudgedTop {
     NotGood,
     Level(u32),
@@ -146,7 +148,7 @@ fn is_count(c: u32, n: u32) -> bool
 }
 
 // What the bytes say: nothing that a writer writes; or C, N, L, and where the nodes begin.
-#[derive(Drop)]
+#[derive(Clone, Copy)]
 enum Said {
     Nothing,
     Set(u32, u32, u32, usize),
@@ -214,7 +216,7 @@ fn place_word(place: usize) -> u32
 }
 
 // Where the next number and the next slot are.
-#[derive(Drop)]
+#[derive(Clone, Copy)]
 struct Place {
     at: usize,
     slot: u32,

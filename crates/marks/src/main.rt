@@ -1,5 +1,7 @@
 // The program behind ./marks: reads standard input, up to 4,096 bytes, and writes to standard output what crate lines makes of them; or
 // it says on standard error what it could not read or write. A program of this language has no exit status but 0: ./marks gives one.
+#![tactic(auto)]
+
 ghost use Rattle.std.specs.Prelude.{◌≡◌, length};
 ghost use Rattle.lines.specs.Printed.{printed};
 ghost use Rattle.marks.specs.Input.{Within};
@@ -11,7 +13,7 @@ use lines::{MOST_PRINTED, render};
 const MOST_READ: usize = 4096;
 
 // How many bytes were read, or that a read failed.
-#[derive(Drop)]
+#[derive(Clone, Copy)]
 enum Input {
     Bytes(usize),
     Unread,

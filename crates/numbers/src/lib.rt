@@ -1,5 +1,7 @@
 // 01, The batch: "Numbers are seven-bit groups, lowest first, top bit set when more follow. Only the shortest form, at most
 // 4,294,967,295."
+#![tactic(auto)]
+
 ghost use Rattle.std.specs.Prelude.{◌≡◌, false, ◌+◌, ◌<◌, length};
 ghost use Rattle.std.proofs.lemmas.List.Edits.{sets};
 ghost use Rattle.encoding.specs.Numbers.{number, groups, below};

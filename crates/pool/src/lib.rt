@@ -1,4 +1,6 @@
 // Prepare and audit. Every function here takes any words: none has a `requires`.
+#![tactic(auto)]
+
 ghost use Rattle.std.specs.Prelude.{◌≡◌};
 ghost use Rattle.format.specs.Audit.{audited, audit_code};
 ghost use Rattle.pool.specs.Results.{prepare_code, prepared_words};
@@ -54,7 +56,7 @@ pub fn allowance(pool: &[u32]) -> u32
 
 // What a walk over a tree finds: a fault; or how many of the nodes that it may have are left over, and what the weights from the edge
 // above it down to each leaf add up to.
-#[derive(Drop)]
+#[derive(Clone, Copy)]
 pub enum Walk {
     Bad,
     Whole(u32, u32),

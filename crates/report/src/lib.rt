@@ -1,4 +1,6 @@
 // Documents 01, Distances, and 02 (iii): the report's seven numbers, counted in two walks down the tree.
+#![tactic(auto)]
+
 ghost use Rattle.std.specs.Prelude.{◌≡◌, pred, ◌+◌, ◌*◌, ◌-◌, ◌≤◌};
 ghost use Rattle.tree.specs.Tree.{red, one};
 ghost use Rattle.tree.specs.Distances.{BoundFits};
@@ -21,7 +23,7 @@ const RED: u32 = 0;
 const BLACK: u32 = 1;
 
 // What a walk finds in a subtree: its nodes, what it counts there, and the distances of that added up.
-#[derive(Drop)]
+#[derive(Clone, Copy)]
 struct Counted {
     nodes: u64,
     number: u64,
@@ -172,7 +174,7 @@ fn step_bound(n: u64, d: u64, r: u64, q: u64) -> u64
 }
 
 // The report's code, 0, 1 or 2, and its numbers.
-#[derive(Drop)]
+#[derive(Clone, Copy)]
 pub struct Reported {
     pub code: u32,
     pub figures: Figures,

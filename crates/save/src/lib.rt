@@ -1,5 +1,7 @@
 // 02 (i), the writer of the saved form: "C, N, then each node from the root, node before its left subtree before its right: twice the weight,
 // plus 1 for an inner node; then the key or router."
+#![tactic(auto)]
+
 ghost use Rattle.std.specs.Prelude.{◌≡◌, [], ◌∷◌, length, ◌+◌, ◌^◌, ◌≤◌, ◌<◌};
 ghost use Rattle.format.specs.declared.Audited.TheVariants.{Passed};
 ghost use Rattle.format.specs.Audit.{state_of, audited};

@@ -1,5 +1,7 @@
 // The set, for a product above it: its operations, each an entry of a pool, and in proofs/Promises.antt what they promise. A crate above
 // calls these, cites that page and specs/, and needs nothing behind them.
+#![tactic(auto)]
+
 ghost use Rattle.std.specs.Prelude.{◌≡◌};
 ghost use Rattle.set.specs.Inside.{audit_answer};
 

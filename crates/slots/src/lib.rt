@@ -1,5 +1,7 @@
 // A pool's words, lent: words, slots and the header, read and written by functions that are total. Past the end a read is 0 and a
 // write does nothing, so callers have no bounds to prove and every contract is an equation.
+#![tactic(auto)]
+
 ghost use Rattle.std.specs.Prelude.{◌≡◌, get_or, set, pred, ◌-◌};
 ghost use Rattle.format.specs.Words.{header_of, put_header, put_level, slot_at, put_slot, part_of, put_part, slots_in, last_slot, length_good, free_slot};
 ghost use Rattle.format.specs.Audit.{is_slot};

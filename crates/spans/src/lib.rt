@@ -1,6 +1,8 @@
 // 02 (vii): the smallest key at or above a given one, the number of keys of a span, and deleting them, on a pool's words under a root or a header
 // that the caller has; and the same for a pool whose header lies in its first words. On any words they end and are equations; what they mean
 // on words that show a sound State is said by `next_shows`, `count_shows` and `span_shows`.
+#![tactic(auto)]
+
 ghost use Rattle.std.specs.Prelude.{◌≡◌, suc};
 ghost use Rattle.tree.specs.Tree.{one};
 ghost use Rattle.tree.specs.Spans.{within};
@@ -13,7 +15,7 @@ use tree::{Answer, Refusal};
 use updates::{delete_under, descend};
 
 // Where a search is, and the right child at its last turn to the left, 0 before the first.
-#[derive(Drop)]
+#[derive(Clone, Copy)]
 struct Turned {
     slot: u32,
     beside: u32,
@@ -92,7 +94,7 @@ pub fn next_key(pool: &[u32], key: u32) -> Answer
 }
 
 // What a walk over a subtree finds: how many keys of the span, and how many slots it may still visit.
-#[derive(Drop)]
+#[derive(Clone, Copy)]
 struct Tally {
     keys: u32,
     left: u32,
