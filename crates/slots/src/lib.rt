@@ -29,6 +29,7 @@ pub fn put_word(pool: &mut [u32], i: usize, x: u32)
 }
 
 // The words of slot s. Where they lie in the pool, one test serves all four.
+#[tactic(auto, unfolding(format::specs::Words::slot_at))]
 pub fn get_slot(pool: &[u32], s: u32) -> Slot
     ensures { result ≡ slot_at pool.now s }
 {
@@ -50,6 +51,7 @@ pub fn get_slot(pool: &[u32], s: u32) -> Slot
     }
 }
 
+#[tactic(auto, unfolding(format::specs::Words::put_slot))]
 pub fn put_slot(pool: &mut [u32], s: u32, c: Slot)
     ensures { pool.new ≡ put_slot pool.old s c }
 {
@@ -68,6 +70,7 @@ pub fn put_slot(pool: &mut [u32], s: u32, c: Slot)
 }
 
 // One word of slot s.
+#[tactic(auto, using(format::proofs::Parts::place_small, format::proofs::Parts::part_read))]
 pub fn get_part(pool: &[u32], s: u32, part: Part) -> u32
     ensures { result ≡ part_of part (slot_at pool.now s) }
 {
@@ -75,6 +78,7 @@ pub fn get_part(pool: &[u32], s: u32, part: Part) -> u32
 }
 
 // Of the words c one, to slot s.
+#[tactic(auto, using(format::proofs::Parts::place_small), unfolding(format::specs::Words::put_part))]
 pub fn put_part(pool: &mut [u32], s: u32, part: Part, c: Slot)
     ensures { pool.new ≡ put_part pool.old s part c }
 {
@@ -82,6 +86,7 @@ pub fn put_part(pool: &mut [u32], s: u32, part: Part, c: Slot)
     put_word(pool, i, part.of(c));
 }
 
+#[tactic(auto, unfolding(format::specs::Words::header_of))]
 pub fn get_header(pool: &[u32]) -> Header
     ensures { result ≡ header_of pool.now }
 {
@@ -103,6 +108,7 @@ fn renew_word(pool: &mut [u32], i: usize, x: u32)
 }
 
 // A word of the header that stays is not written, so a search, a refused command and a refused call write no pool word.
+#[tactic(auto, unfolding(format::specs::Words::put_header))]
 pub fn put_header(pool: &mut [u32], h: Header)
     ensures { pool.new ≡ put_header pool.old h }
 {
@@ -113,6 +119,7 @@ pub fn put_header(pool: &mut [u32], h: Header)
 }
 
 // L alone, and only where it moved.
+#[tactic(auto, unfolding(format::specs::Words::put_level))]
 pub fn put_level(pool: &mut [u32], level: u32)
     ensures { pool.new ≡ put_level pool.old level }
 {
@@ -120,6 +127,7 @@ pub fn put_level(pool: &mut [u32], level: u32)
 }
 
 // C, of a pool of any length.
+#[tactic(auto, unfolding(format::specs::Words::slots_in))]
 pub fn slots_in(pool: &[u32]) -> usize
     ensures { result ≡ slots_in pool.now }
 {
@@ -140,6 +148,7 @@ pub fn last_slot(pool: &[u32]) -> u32
 }
 
 // 01: "its length is 4 + 4C"; 02 (viii): "Raise C to 16,383. [..] Code 1 follows the new limit."
+#[tactic(auto, using(format::proofs::RulesSlots::length_other, format::proofs::RulesSlots::length_none, format::proofs::RulesSlots::length_some), unfolding(format::specs::Words::slots_in))]
 pub fn length_good(pool: &[u32]) -> bool
     ensures { result ≡ length_good pool.now }
 {
@@ -154,6 +163,7 @@ pub fn length_good(pool: &[u32]) -> bool
 }
 
 // 01: "Slots are numbered from 1; 0 is no slot."
+#[tactic(auto, using(format::proofs::RulesSlots::slot_zero, format::proofs::RulesSlots::slot_from_one))]
 pub fn is_slot(pool: &[u32], s: u32) -> bool
     ensures { result ≡ is_slot pool.now s }
 {
