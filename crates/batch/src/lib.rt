@@ -21,6 +21,7 @@ use updates::{delete_under, insert_under, search_under};
 const ANSWER_WORDS: usize = 2;
 
 // One command, under the header that the commands before it left.
+#[tactic(auto, unfolding(crate::specs::Operated::perform_on, crate::specs::Operated::operated))]
 fn perform(pool: &mut [u32], h: Header, c: Command) -> Performed
     ensures result { result ≡ (perform_on c pool.old h).result }
     ensures pool { pool.new ≡ (perform_on c pool.old h).words }
@@ -48,6 +49,7 @@ fn perform(pool: &mut [u32], h: Header, c: Command) -> Performed
 }
 
 // An answer's two words, from word `place` on. Past the end nothing is written.
+#[tactic(auto, using(crate::proofs::AnswersPut::put_past), unfolding(crate::specs::Operated::put_answer))]
 fn put_answer(answers: &mut [u32], place: usize, a: Answer)
     ensures { answers.new ≡ put_answer answers.old place a }
 {
@@ -59,6 +61,7 @@ fn put_answer(answers: &mut [u32], place: usize, a: Answer)
 
 // 01: "Commands run in order and a refused command does not stop the rest." The pool passed the audit with the header h, which is carried
 // through the commands and written once, at the end.
+#[tactic(auto, using(crate::proofs::Turns::turn_starts, crate::proofs::Turns::turn_fault, crate::proofs::Turns::turn_place, crate::proofs::Turns::turn_good, crate::proofs::Turns::turn_ends))]
 fn run(pool: &mut [u32], h: Header, bytes: &[u8], answers: &mut [u32])
     requires { Ready pool.old h bytes.now answers.old }
     ensures pool { pool.new ≡ (batch pool.old bytes.now answers.old).pool }
@@ -100,6 +103,7 @@ fn refuse(f: Refusal) -> Called
 
 // 01: "Codes 1 to 4 refuse the call, in the order 1, 3, 4, 2, and change no word." "A call that is not refused gives 0 and number 0
 // itself."
+#[tactic(auto, using(format::proofs::AuditCases::code_kept, crate::proofs::CallTests::call_refuses, crate::proofs::CallTests::place_fits, crate::proofs::CallTests::count_fits, crate::proofs::CallTests::finds_bad, crate::proofs::CallTests::finds_ready, crate::proofs::CallTests::finds_none, crate::proofs::CallTests::test_length, crate::proofs::CallTests::test_few, crate::proofs::CallTests::test_broken))]
 pub fn batch(pool: &mut [u32], bytes: &[u8], answers: &mut [u32]) -> Called
     ensures code { result.code ≡ (batch pool.old bytes.now answers.old).code }
     ensures number { result.number ≡ (batch pool.old bytes.now answers.old).number }

@@ -19,6 +19,7 @@ use save::save;
 // 01: "The exported batch returns its code times 4,294,967,296 plus its number." So do save, load and the send limit's two.
 const CODE_UNIT: u64 = 4294967296;
 
+#[tactic(auto, unfolding(crate::specs::Exports::in_one_word))]
 fn one_word(code: u32, number: u32) -> u64
     ensures { result ≡ in_one_word code number }
 {
@@ -54,6 +55,7 @@ pub extern "C" fn chromatic_audit(pool: &[u32]) -> u32
 }
 
 // 01: "takes an index, 1 first, and returns that number, 0 for a refused pool or any other index."
+#[tactic(auto, unfolding(crate::specs::Exports::number_at))]
 #[unsafe(no_mangle)]
 pub extern "C" fn chromatic_report(pool: &[u32], index: u32) -> u64
     ensures number { result ≡ number_at pool.now index }
@@ -61,6 +63,7 @@ pub extern "C" fn chromatic_report(pool: &[u32], index: u32) -> u64
     report(pool).number(index)
 }
 
+#[tactic(auto, unfolding(crate::specs::Exports::returned))]
 #[unsafe(no_mangle)]
 pub extern "C" fn chromatic_batch(pool: &mut [u32], batch: &[u8], answers: &mut [u32]) -> u64
     ensures result { result ≡ returned (call pool.old batch.now answers.old) }
@@ -72,6 +75,7 @@ pub extern "C" fn chromatic_batch(pool: &mut [u32], batch: &[u8], answers: &mut 
 }
 
 // 02 (i): "The writer answers 0 and the byte count [..]; output bytes past the count stay."
+#[tactic(auto, unfolding(crate::specs::Exports::returned_answer))]
 #[unsafe(no_mangle)]
 pub extern "C" fn chromatic_save(pool: &[u32], out: &mut [u8]) -> u64
     ensures result { result ≡ returned_answer (save_call pool.now out.old).answer }
@@ -82,6 +86,7 @@ pub extern "C" fn chromatic_save(pool: &[u32], out: &mut [u8]) -> u64
 }
 
 // 02 (i): "the reader [answers] 0 and N". The pool may hold any words.
+#[tactic(auto, unfolding(crate::specs::Exports::returned_answer))]
 #[unsafe(no_mangle)]
 pub extern "C" fn chromatic_load(pool: &mut [u32], saved: &[u8]) -> u64
     ensures result { result ≡ returned_answer (load_call pool.old saved.now).answer }
@@ -92,6 +97,7 @@ pub extern "C" fn chromatic_load(pool: &mut [u32], saved: &[u8]) -> u64
 }
 
 // 02 (iv): "Yes is code 0 and the attempt", which is marked then. Refusals in the order 15, 1, 2, 16, 7.
+#[tactic(auto, unfolding(crate::specs::Exports::returned_answer))]
 #[unsafe(no_mangle)]
 pub extern "C" fn chromatic_may_send(
     pool: &mut [u32],
@@ -107,6 +113,7 @@ pub extern "C" fn chromatic_may_send(
 }
 
 // 02 (iv): "clearing code 0 and how many marks went". Refusals in the order 15, 1, 2.
+#[tactic(auto, unfolding(crate::specs::Exports::returned_answer))]
 #[unsafe(no_mangle)]
 pub extern "C" fn chromatic_clear_notice(pool: &mut [u32], notice: u32) -> u64
     ensures result { result ≡ returned_answer (clear_notice pool.old notice).answer }

@@ -12,6 +12,7 @@ use numbers::number;
 pub const MOST_COMMANDS: usize = 256;
 
 // The command at place `at`, or the place of its fault: an unknown operation's is where its number begins.
+#[tactic(auto, unfolding(encoding::specs::Batch::command_at, encoding::specs::Batch::operation_at, encoding::specs::Batch::meant_at))]
 pub fn command_at(bytes: &[u8], at: usize) -> Reading
     ensures { result ≡ command_at bytes.now at }
 {
@@ -27,6 +28,7 @@ pub fn command_at(bytes: &[u8], at: usize) -> Reading
 }
 
 // The arguments of an operation, from place `next` on: one or two.
+#[tactic(auto, using(crate::proofs::Commands::only, crate::proofs::Commands::first_wrong, crate::proofs::Commands::two))]
 fn arguments_at(bytes: &[u8], operation: Operation, next: usize) -> Reading
     ensures { result ≡ arguments_at bytes.now operation next }
 {
@@ -49,6 +51,7 @@ fn arguments_at(bytes: &[u8], operation: Operation, next: usize) -> Reading
     }
 }
 
+#[tactic(auto, unfolding(encoding::specs::Batch::last_argument))]
 fn last_argument(bytes: &[u8], operation: Operation, first: u32, next: usize) -> Reading
     ensures { result ≡ last_argument operation first (number bytes.now next) }
 {
@@ -73,6 +76,7 @@ pub enum Scanned {
 }
 
 // 02 (ii): "a 257th command, which counts before any fault inside it".
+#[tactic(auto, using(crate::proofs::Scanning::scan_starts, crate::proofs::Scanning::scan_ends, crate::proofs::Scanning::scan_over, crate::proofs::Scanning::scan_fault, crate::proofs::Scanning::scan_good))]
 pub fn scan(bytes: &[u8]) -> Scanned
     ensures { result ≡ scanned (read_batch bytes.now) }
 {

@@ -21,6 +21,7 @@ const NOTICE_KEYS: u32 = 65536;
 
 const RESIDENT_KEYS: u32 = 8;
 
+#[tactic(auto, using(crate::proofs::Arguments::notice_low, crate::proofs::Arguments::notice_from_one))]
 fn notice_good(notice: u32) -> bool
     ensures { result ≡ notice_good notice }
 {
@@ -30,6 +31,7 @@ fn notice_good(notice: u32) -> bool
     notice <= MOST_NOTICE
 }
 
+#[tactic(auto, using(crate::proofs::Arguments::notice_refused, crate::proofs::Arguments::resident_refused, crate::proofs::Arguments::limit_refused, crate::proofs::Arguments::limit_decides))]
 fn arguments_good(notice: u32, resident: u32, limit: u32) -> bool
     ensures { result ≡ arguments_good notice resident limit }
 {
@@ -46,6 +48,7 @@ fn arguments_good(notice: u32, resident: u32, limit: u32) -> bool
 }
 
 // The lowest attempt from 1 to the limit that is not marked, or 0: at most `limit` searches. The key `first` is that of attempt 0.
+#[tactic(auto, using(crate::proofs::Asking::lowest_here, crate::proofs::Asking::lowest_on, crate::proofs::Asking::lowest_none, crate::proofs::Asking::search_misses, crate::proofs::Asking::search_finds))]
 fn lowest_unmarked(pool: &[u32], first: u32, limit: u32) -> u32
     requires passes { Passing pool.now }
     requires fits { first + limit < key_end }
@@ -65,6 +68,7 @@ fn lowest_unmarked(pool: &[u32], first: u32, limit: u32) -> u32
 
 // 02 (iv): the lowest unmarked attempt "is marked in the same call before the answer is yes". An insert of a key that is not there is
 // refused for one cause alone, no room.
+#[tactic(auto, using(crate::proofs::Asking::asked_used, crate::proofs::Asking::found_within, crate::proofs::Asking::asked_lacking, crate::proofs::Asking::asked_yes))]
 fn ask(pool: &mut [u32], first: u32, limit: u32) -> Answer
     requires passes { Passing pool.old }
     requires fits { first + limit < key_end }
@@ -84,6 +88,7 @@ fn ask(pool: &mut [u32], first: u32, limit: u32) -> Answer
 }
 
 // May this text go? Yes is code 0 and the attempt, whose mark is then in the set. Refusals in the order 15, 1, 2, 16, 7.
+#[tactic(auto, using(crate::proofs::Arguments::arguments_good_is, crate::proofs::Judging::audit_passing, crate::proofs::Judging::sending_outside, crate::proofs::Judging::sending_unaudited, crate::proofs::Judging::sending_asks))]
 pub fn may_send(pool: &mut [u32], notice: u32, resident: u32, limit: u32) -> Answer
     ensures answer { result ≡ (may_send pool.old notice resident limit).answer }
     ensures pool { pool.new ≡ (may_send pool.old notice resident limit).left }
@@ -99,6 +104,7 @@ pub fn may_send(pool: &mut [u32], notice: u32, resident: u32, limit: u32) -> Ans
 }
 
 // A key of the notice: if it is a mark, it is deleted. How many went: 1, or 0.
+#[tactic(auto, using(crate::proofs::Cleared::at_attempt_0, crate::proofs::Cleared::at_kept, crate::proofs::Cleared::at_gone))]
 fn clear_at(pool: &mut [u32], key: u32) -> u32
     requires passes { Passing pool.old }
     ensures count { result ≡ (cleared_at key pool.old).count }
@@ -116,6 +122,7 @@ fn clear_at(pool: &mut [u32], key: u32) -> u32
 
 // The marks among a notice's keys, from the first one on, smallest first: from one key that is in the set to the next. The last notice's
 // keys end with the last 32-bit number, so the key after them needs 64 bits.
+#[tactic(auto, using(crate::proofs::Cleared::at_says, crate::proofs::Cleared::turn_starts, crate::proofs::Cleared::turn_ends, crate::proofs::Cleared::turn_none, crate::proofs::Cleared::turn_beyond, crate::proofs::Cleared::turn_later, crate::proofs::Cleared::turn_on))]
 fn clear_from(pool: &mut [u32], first: u32) -> u32
     requires passes { Passing pool.old }
     requires fits { first + notice_keys ≤ key_end }
@@ -141,6 +148,7 @@ fn clear_from(pool: &mut [u32], first: u32) -> u32
 }
 
 // Clears a notice: code 0 and how many marks went. Refusals in the order 15, 1, 2.
+#[tactic(auto, using(crate::proofs::Arguments::notice_good_is, crate::proofs::Judging::audit_passing, crate::proofs::Judging::clearing_outside, crate::proofs::Judging::clearing_unaudited, crate::proofs::Judging::clearing_clears), unfolding(crate::specs::Ledger::clearing))]
 pub fn clear_notice(pool: &mut [u32], notice: u32) -> Answer
     ensures answer { result ≡ (clear_notice pool.old notice).answer }
     ensures pool { pool.new ≡ (clear_notice pool.old notice).left }

@@ -55,6 +55,7 @@ fn put_digits(out: &mut [u8], at: usize, x: u32, left: usize) -> usize
 }
 
 // 01: "per command one line, code, space, number".
+#[tactic(auto, using(crate::proofs::Stores::put_line))]
 fn put_line(out: &mut [u8], at: usize, code: u32, number: u32) -> usize
     requires { at + line_bytes ≤ length out.old }
     ensures next { result ≡ at + length (line code number) }
@@ -68,6 +69,7 @@ fn put_line(out: &mut [u8], at: usize, code: u32, number: u32) -> usize
 }
 
 // 01: "for a call refused whole, "refused", space, code, space, number."
+#[tactic(auto, using(crate::proofs::Stores::refused_length), unfolding(crate::specs::Printed::refused_line))]
 fn put_refused(out: &mut [u8], code: u32, number: u32) -> usize
     requires { 8 + line_bytes ≤ length out.old }
     ensures next { result ≡ length (refused_line code number) }
@@ -85,6 +87,7 @@ fn put_refused(out: &mut [u8], code: u32, number: u32) -> usize
 }
 
 // The lines of the first `count` answers.
+#[tactic(auto, using(crate::proofs::Stores::putting_starts, crate::proofs::Stores::putting_length, crate::proofs::Stores::putting_place, crate::proofs::Stores::putting_more))]
 fn put_lines(out: &mut [u8], answers: &[u32], count: usize) -> usize
     requires count_le_most_commands { count ≤ most_commands }
     requires count_in_bounds { line_bytes * count ≤ length out.old }
@@ -100,6 +103,7 @@ fn put_lines(out: &mut [u8], answers: &[u32], count: usize) -> usize
     at
 }
 
+#[tactic(auto, using(crate::proofs::Batches::counted, crate::proofs::Batches::none_counted))]
 fn commands_in(bytes: &[u8]) -> usize
     ensures few { result ≤ most_commands }
     ensures count { result ≡ how_many (read_batch bytes.now) }
@@ -112,6 +116,7 @@ fn commands_in(bytes: &[u8]) -> usize
 }
 
 // 01: "The program prepares 127 slots [..] and prints per command one line". The bytes after what is printed stay as they were.
+#[tactic(auto, using(crate::proofs::Rendering::render_ran, crate::proofs::Rendering::render_refused))]
 pub fn render(bytes: &[u8], out: &mut [u8; MOST_PRINTED]) -> usize
     ensures count { result ≡ length (printed bytes.now) }
     ensures out { out.new ≡ sets out.old 0 (printed bytes.now) }

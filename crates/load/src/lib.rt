@@ -104,6 +104,7 @@ enum JudgedTop {
 
 // The numbers from place `at` to the end, as one good tree of n nodes that hangs from an edge of weight 1; no numbers if n is 0. L is the sum
 // that judging the tree gave, less the root's weight, which counts in nothing.
+#[tactic(auto, using(crate::proofs::Wholes::top_none_past, crate::proofs::Wholes::top_none, crate::proofs::Wholes::top_cut, crate::proofs::Wholes::top_weight, crate::proofs::Wholes::top_fault, crate::proofs::Wholes::top_more, crate::proofs::Wholes::top_past, crate::proofs::Wholes::top_sum, crate::proofs::Wholes::top_whole))]
 fn judge_top(bytes: &[u8], at: usize, n: u32) -> JudgedTop
     requires { n < 2 ^ 31 }
     ensures { TopSays bytes.now at n result }
@@ -135,6 +136,7 @@ fn judge_top(bytes: &[u8], at: usize, n: u32) -> JudgedTop
 }
 
 // C is from 1 to MOST_SLOTS, N at most C.
+#[tactic(auto, using(crate::proofs::Wholes::count_none, crate::proofs::Wholes::count_many, crate::proofs::Wholes::count_is))]
 fn is_count(c: u32, n: u32) -> bool
     ensures { result ≡ is_count most_slots c n }
 {
@@ -154,6 +156,7 @@ enum Said {
     Set(u32, u32, u32, usize),
 }
 
+#[tactic(auto, using(crate::proofs::Wholes::no_slots, crate::proofs::Wholes::no_nodes, crate::proofs::Wholes::no_count, crate::proofs::Wholes::no_top, crate::proofs::Wholes::all_found, crate::proofs::Wholes::count_few))]
 fn judge_all(bytes: &[u8]) -> Said
     ensures { WholeSays bytes.now result }
 {
@@ -173,6 +176,7 @@ fn judge_all(bytes: &[u8]) -> Said
 }
 
 // The byte at which one of the `count` numbers from place `at` on goes wrong, the first that does; the count of bytes if all read.
+#[tactic(auto, using(saved::proofs::Places::place_end, saved::proofs::Places::place_next, saved::proofs::Places::place_stop))]
 fn first_wrong(bytes: &[u8], at: usize, count: u64) -> usize
     ensures { result ≡ place_in (length bytes.now) (numbers_at count bytes.now at) }
 {
@@ -192,6 +196,7 @@ fn first_wrong(bytes: &[u8], at: usize, count: u64) -> usize
 
 // 02 (ii): "the place of the first bad number, and the count of saved bytes where every number reads". It is looked for in bytes that are refused,
 // and in no others.
+#[tactic(auto, using(saved::proofs::Places::slots_wrong, saved::proofs::Places::count_wrong, saved::proofs::Places::nodes_wrong))]
 fn bad_place(bytes: &[u8]) -> usize
     ensures { result ≡ bad_place bytes.now }
 {
@@ -205,6 +210,7 @@ fn bad_place(bytes: &[u8]) -> usize
 }
 
 // The place as a word: past 32 bits it is the last one.
+#[tactic(auto, unfolding(saved::specs::Calls::place_word))]
 fn place_word(place: usize) -> u32
     ensures { result ≡ place_word place }
 {
@@ -263,6 +269,7 @@ fn build(pool: &mut [u32], bytes: &[u8], at: usize, s: u32, left: u32) -> Place
 }
 
 // The whole set, none if n is 0.
+#[tactic(auto, using(crate::proofs::Filling::build_none, crate::proofs::Filling::build_able, crate::proofs::Filling::build_tree))]
 fn build_top(pool: &mut [u32], bytes: &[u8], n: u32, at: usize)
     requires { TopBuildable bytes.now n at }
     ensures { TopBuildSays bytes.now n at pool.old pool.new }
@@ -274,6 +281,7 @@ fn build_top(pool: &mut [u32], bytes: &[u8], n: u32, at: usize)
 }
 
 // What follows slot s on the chain of all slots up to `last`.
+#[tactic(auto, using(crate::proofs::Chaining::next_up, crate::proofs::Chaining::next_none))]
 fn next_free(s: u32, last: u32) -> u32
     ensures { result ≡ head_of (upwards (s + 1) (last - s)) }
 {
@@ -281,6 +289,7 @@ fn next_free(s: u32, last: u32) -> u32
 }
 
 // ".. and chains the rest upwards": the slots from `first` to `last`.
+#[tactic(auto, using(crate::proofs::Chaining::chain_done, crate::proofs::Chaining::chain_next))]
 fn chain_up(pool: &mut [u32], first: u32, last: u32)
     requires { last + 1 < 2 ^ 32 }
     ensures { pool.new ≡ put_up pool.old first (last + 1 - first) }
@@ -300,6 +309,7 @@ fn first_slot(n: u32) -> u32
 }
 
 // Tree, free slots and header, with L.
+#[tactic(auto, using(crate::proofs::Filling::build_words))]
 fn build_all(pool: &mut [u32], bytes: &[u8], c: u32, n: u32, level: u32, at: usize)
     requires { TopBuildable bytes.now n at × (n ≤ c) × (c + 1 < 2 ^ 32) }
     ensures { AllBuildSays bytes.now c n level at pool.old pool.new }
@@ -318,6 +328,7 @@ fn build_all(pool: &mut [u32], bytes: &[u8], c: u32, n: u32, level: u32, at: usi
 }
 
 // "the reader [answers] 0 and N"
+#[tactic(auto, using(saved::proofs::Restarts::both, saved::proofs::Restarts::load_length, saved::proofs::Restarts::load_bad, crate::proofs::Filling::load_able, crate::proofs::Filling::load_other, crate::proofs::Filling::load_filled))]
 pub fn load(pool: &mut [u32], bytes: &[u8]) -> Answer
     ensures answer { result ≡ (load_call pool.old bytes.now).answer }
     ensures pool { pool.new ≡ (load_call pool.old bytes.now).left }

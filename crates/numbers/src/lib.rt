@@ -18,6 +18,7 @@ const AFTER_SECOND: u32 = 3;
 const MOST_FIFTH: u32 = 15;
 
 // The number at place `at`. Most are one byte long.
+#[tactic(auto, using(crate::proofs::Groups::ended, crate::proofs::Groups::read_last, crate::proofs::Groups::more), unfolding(encoding::specs::Numbers::number))]
 pub fn number(bytes: &[u8], at: usize) -> Number
     ensures { result ≡ number bytes.now at }
 {
@@ -32,6 +33,7 @@ pub fn number(bytes: &[u8], at: usize) -> Number
 }
 
 // The number with `low` as its lowest group and the others from place `from` on.
+#[tactic(auto, using(crate::proofs::Groups::ended, crate::proofs::Groups::large, crate::proofs::Groups::padded, crate::proofs::Groups::read_last, crate::proofs::Ahead::answer, crate::proofs::Ahead::most, crate::proofs::Ahead::fits, crate::proofs::Ahead::ahead, crate::proofs::Ahead::below_above))]
 fn further(bytes: &[u8], from: usize, low: u32) -> Number
     requires { low < 128 }
     ensures { result ≡ below low (groups 3 false bytes.now from) }
@@ -82,6 +84,7 @@ const FIVE_BYTES: u32 = GROUP * FOUR_BYTES;
 const MOST_MORE: usize = 4;
 
 // How many bytes v takes.
+#[tactic(auto, using(crate::proofs::Putting::one_byte, crate::proofs::Putting::two_bytes, crate::proofs::Putting::three_bytes, crate::proofs::Putting::four_bytes, crate::proofs::Putting::five_bytes))]
 pub fn number_length(v: u32) -> usize
     ensures { result ≡ length (bytes_of v) }
 {
@@ -101,6 +104,7 @@ pub fn number_length(v: u32) -> usize
 }
 
 // Writes the bytes of v from place `at` on, where there is room for the longest number, and answers how many they are.
+#[tactic(auto, using(crate::proofs::Putting::place_first, crate::proofs::Putting::place_last, crate::proofs::Putting::place_fifth, crate::proofs::Putting::place_more))]
 fn put_whole(out: &mut [u8], at: usize, v: u32) -> usize
     requires { at + 4 < length out.old }
     ensures count { result ≡ length (bytes_of v) }
@@ -122,6 +126,7 @@ fn put_whole(out: &mut [u8], at: usize, v: u32) -> usize
 }
 
 // The same as far as there is room.
+#[tactic(auto, using(crate::proofs::Putting::put_first, crate::proofs::Putting::put_more, crate::proofs::Putting::put_last, crate::proofs::Putting::put_ended))]
 fn put_some(out: &mut [u8], at: usize, v: u32)
     ensures { out.new ≡ sets out.old at (bytes_of v) }
 {

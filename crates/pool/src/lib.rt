@@ -21,6 +21,7 @@ pub const ROOT_WEIGHT: u32 = 1;
 pub const KEY_END: u64 = 4294967296;
 
 // 01: "Prepare makes a pool empty: header 0, 1, 0, 0, all slots free, chained 1, 2, .. C."
+#[tactic(auto, using(format::proofs::Shown::good_length, crate::proofs::Prepares::chaining_first, crate::proofs::Prepares::chaining_more, crate::proofs::Prepares::prepare_refused, crate::proofs::Prepares::prepare_done))]
 pub fn prepare(pool: &mut [u32]) -> u32
     ensures code { result ≡ prepare_code pool.old }
     ensures pool { pool.new ≡ prepared_words pool.old }
@@ -67,6 +68,7 @@ const MOST_SUM: u32 = MOST_LEVEL + ROOT_WEIGHT;
 
 // A slot whose left is 0, as a leaf with its key from lo to below hi. This and `join` are the rules of a tree's leaves and nodes, for the
 // audit's walk and for the reader of the saved form.
+#[tactic(auto, using(crate::proofs::Tours::leaf_good, crate::proofs::Tours::leaf_bad))]
 pub fn walk_leaf(c: Slot, lo: u64, hi: u64, rest: u32) -> Walk
     ensures { result ≡ leaf_walk c lo hi rest }
 {
@@ -89,6 +91,7 @@ pub fn walk_leaf(c: Slot, lo: u64, hi: u64, rest: u32) -> Walk
 }
 
 // An edge of weight w to an inner node, whose subtrees have the sums al and bl.
+#[tactic(auto, using(crate::proofs::Tours::join_good, crate::proofs::Tours::join_bad))]
 pub fn join(w: u32, rest: u32, al: u32, bl: u32) -> Walk
     ensures { result ≡ join_walk w rest al bl }
 {
@@ -132,6 +135,7 @@ fn walk_tree(pool: &[u32], s: u32, lo: u64, hi: u64, left: u32, most: u32) -> Wa
 }
 
 // The whole tree, none where the root is 0: the nodes left over, and L.
+#[tactic(auto, using(crate::proofs::Tours::top_none, crate::proofs::Tours::top_weight, crate::proofs::Tours::top_tree, crate::proofs::Visits::sum_from_weight))]
 fn walk_top(pool: &[u32], root: u32, left: u32, most: u32) -> Walk
     ensures { result ≡ (top_tour pool.now root left most).answer }
 {
@@ -148,6 +152,7 @@ fn walk_top(pool: &[u32], root: u32, left: u32, most: u32) -> Walk
     Walk::Whole(rest, l - ROOT_WEIGHT)
 }
 
+#[tactic(auto, using(format::proofs::Slots::slot_eq))]
 fn is_free(c: Slot) -> bool
     ensures { FreeSays c result }
 {
@@ -164,6 +169,7 @@ fn is_free(c: Slot) -> bool
 }
 
 // Whether the free chain from slot `first` on has n slots and ends there.
+#[tactic(auto, using(crate::proofs::Tours::free_decided, crate::proofs::Tours::turn_outside, crate::proofs::Tours::turn_taken, crate::proofs::Tours::turn_next, crate::proofs::Tours::turn_end))]
 fn walk_chain(pool: &[u32], first: u32, n: u32) -> bool
     ensures { result ≡ (chain_tour n pool.now first).answer }
 {
@@ -188,6 +194,7 @@ fn walk_chain(pool: &[u32], first: u32, n: u32) -> bool
 
 // The audit. The chain may have C - N slots and the tree N nodes: at most C + 1 visits in all, on any words, and C where the pool passes
 // (`audit_visits_lem` and `passed_visits` in proofs/Visits.antt).
+#[tactic(auto, using(format::proofs::Shown::good_length, format::proofs::AuditCases::audited_length, crate::proofs::Tours::audit_nodes, crate::proofs::Tours::audit_walks, crate::proofs::Tours::walks_chain, crate::proofs::Tours::walks_tree, crate::proofs::Tours::counted_other, crate::proofs::Tours::counted_level, crate::proofs::Tours::counted_all, crate::proofs::Audits::audit_tour_lem))]
 pub fn examine(pool: &[u32]) -> Audited
     ensures { result ≡ audited pool.now }
 {
@@ -215,6 +222,7 @@ pub fn examine(pool: &[u32]) -> Audited
 }
 
 // 01: "audit and report give 0, 1 or 2".
+#[tactic(auto, unfolding(format::specs::Audit::audit_code))]
 pub fn audit(pool: &[u32]) -> u32
     ensures code { result ≡ audit_code pool.now }
 {

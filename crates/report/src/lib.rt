@@ -74,6 +74,7 @@ fn outside(n: u32, nodes: u64) -> u64
 }
 
 // Whether the edge to slot s is red.
+#[tactic(auto, using(tree::proofs::Tests::red_test))]
 fn is_red(pool: &[u32], s: u32) -> bool
     ensures { result ≡ red (slot_at pool.now s).weight }
 {
@@ -81,6 +82,7 @@ fn is_red(pool: &[u32], s: u32) -> bool
     c.weight == RED
 }
 
+#[tactic(auto, unfolding(tree::specs::Tree::one))]
 fn red_edge(yes: bool) -> u64
     ensures { result ≡ one yes }
 {
@@ -196,6 +198,7 @@ impl Reported {
     pub const BOUND: u32 = 7;
 
     // 01: "takes an index, 1 first, and returns that number, 0 for a refused pool or any other index".
+    #[tactic(auto, using(crate::proofs::Reports::figure_none), unfolding(crate::specs::Report::figure_at, tree::specs::State::figures))]
     pub fn number(self, index: u32) -> u64
         ensures number { result ≡ figure_at index self.figures }
     {
@@ -229,6 +232,7 @@ fn zeros() -> Figures
 
 // The numbers of the tree that the words show, which passed the audit with the header h; L is read there. The walks go no deeper than the
 // audit's does.
+#[tactic(auto, using(format::proofs::AuditCases::rules_are_kept, pool::proofs::Standing::no_root, pool::proofs::Standing::root_standing, crate::proofs::Reports::root_bound_fits, crate::proofs::Reports::counted_nodes, crate::proofs::Reports::root_report), unfolding(tree::specs::State::report))]
 fn figures(pool: &[u32], h: Header) -> Figures
     requires { audited pool.now ≡ Passed h }
     ensures { result ≡ report (state_of pool.now).top }
@@ -253,6 +257,7 @@ fn figures(pool: &[u32], h: Header) -> Figures
 }
 
 // 01: "audit and report give 0, 1 or 2, the report with seven zeros when refused".
+#[tactic(auto, unfolding(crate::specs::Report::report_of))]
 pub fn report(pool: &[u32]) -> Reported
     ensures report { result ≡ report_of pool.now }
 {

@@ -19,6 +19,7 @@ use tree::{Answer, Refusal};
 const TWICE: u32 = 2;
 
 // How many bytes two numbers take.
+#[tactic(auto, using(crate::proofs::Writing::pair_most, crate::proofs::Writing::pair_length_is))]
 fn pair_length(a: u32, b: u32) -> usize
     ensures { result ≡ length (bytes_of_all (a ∷ b ∷ [])) }
 {
@@ -26,6 +27,7 @@ fn pair_length(a: u32, b: u32) -> usize
 }
 
 // Writes two numbers from place `at` on, and answers the place after them.
+#[tactic(auto, using(crate::proofs::Writing::pair_length_is, crate::proofs::Writing::put_both))]
 fn put_pair(out: &mut [u8], at: usize, a: u32, b: u32) -> usize
     requires { at + length (bytes_of_all (a ∷ b ∷ [])) < 2 ^ 64 }
     ensures { Put (a ∷ b ∷ []) out.old out.new at result }
@@ -35,6 +37,7 @@ fn put_pair(out: &mut [u8], at: usize, a: u32, b: u32) -> usize
 }
 
 // "twice the weight, plus 1 for an inner node"
+#[tactic(auto, using(crate::proofs::Writing::first_leaf, crate::proofs::Writing::first_node))]
 fn first_number(c: Slot) -> u32
     requires { c.weight ≤ most_sum }
     ensures { result ≡ first_number c }
@@ -76,6 +79,7 @@ fn put_tree(pool: &[u32], out: &mut [u8], s: u32, at: usize, left: u32) -> usize
 }
 
 // The same of all nodes of a pool that passed the audit: none where the root is 0.
+#[tactic(auto, using(format::proofs::AuditCases::rules_are_kept, crate::proofs::Whole::nodes_none, crate::proofs::Whole::root_stands, crate::proofs::Whole::nodes_counted))]
 fn nodes_length(pool: &[u32], h: Header) -> usize
     requires { audited pool.now ≡ Passed h }
     ensures { result ≡ length (bytes_of_all (top_numbers (state_of pool.now).top)) }
@@ -86,6 +90,7 @@ fn nodes_length(pool: &[u32], h: Header) -> usize
     tree_length(pool, h.root, allowance(pool))
 }
 
+#[tactic(auto, using(format::proofs::AuditCases::rules_are_kept, crate::proofs::Whole::put_none, crate::proofs::Whole::root_placed, crate::proofs::Whole::nodes_put))]
 fn put_nodes(pool: &[u32], out: &mut [u8], h: Header, at: usize) -> usize
     requires { (audited pool.now ≡ Passed h) × (at < 2 ^ 32) }
     ensures { Put (top_numbers (state_of pool.now).top) out.old out.new at result }
@@ -97,6 +102,7 @@ fn put_nodes(pool: &[u32], out: &mut [u8], h: Header, at: usize) -> usize
 }
 
 // A pool that passed the audit: the bytes are counted before the first is written.
+#[tactic(auto, using(format::proofs::AuditCases::rules_are_kept, crate::proofs::Writing::pair_most, crate::proofs::Whole::saved_count, crate::proofs::Whole::saved_small, crate::proofs::Whole::saved_wrote, crate::proofs::Whole::no_fit, crate::proofs::Whole::fit))]
 fn save_kept(pool: &[u32], out: &mut [u8], h: Header) -> Answer
     requires { audited pool.now ≡ Passed h }
     ensures answer { result ≡ (save_into (saved_bytes (state_of pool.now)) out.old).answer }
@@ -113,6 +119,7 @@ fn save_kept(pool: &[u32], out: &mut [u8], h: Header) -> Answer
 }
 
 // "The writer takes any pool that passes the audit. [..] The writer answers 0 and the byte count".
+#[tactic(auto, using(format::proofs::AuditCases::length_wrong, format::proofs::AuditCases::rules_are_broken, format::proofs::AuditCases::rules_are_kept, saved::proofs::Restarts::both, saved::proofs::Restarts::save_length, saved::proofs::Restarts::save_broken, saved::proofs::Restarts::save_kept))]
 pub fn save(pool: &[u32], out: &mut [u8]) -> Answer
     ensures answer { result ≡ (save_call pool.now out.old).answer }
     ensures out { out.new ≡ (save_call pool.now out.old).left }

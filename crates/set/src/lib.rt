@@ -12,6 +12,7 @@ use tree::{Answer, Refusal};
 pub use updates::{delete, insert, search};
 
 // The audit, as an answer: refused with 1 or 2, or done.
+#[tactic(auto, unfolding(crate::specs::Inside::audit_answer))]
 pub fn audit_answer(pool: &[u32]) -> Answer
     ensures { result ≡ audit_answer pool.now }
 {

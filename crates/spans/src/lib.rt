@@ -22,6 +22,7 @@ struct Turned {
 }
 
 // 01: "Search goes left when the key is at most the router, else right."
+#[tactic(auto, unfolding(crate::specs::Spanning::turn, updates::specs::Updating::toward, crate::specs::Spanning::beside_at))]
 fn turn(c: Slot, beside: u32, key: u32) -> Turned
     ensures { result ≡ turn key c beside }
 {
@@ -39,6 +40,7 @@ fn turn(c: Slot, beside: u32, key: u32) -> Turned
 }
 
 // Where the search for key from slot root on ends. It goes down at most C slots, so it ends on any words.
+#[tactic(auto, using(crate::proofs::Ways::turns_end, crate::proofs::Ways::turns_on), unfolding(crate::specs::Spanning::turns_to, crate::specs::Spanning::turn, crate::specs::Spanning::turns))]
 fn turns(pool: &[u32], root: u32, key: u32) -> Turned
     ensures { result ≡ turns_to pool.now root key }
 {
@@ -59,6 +61,7 @@ fn turns(pool: &[u32], root: u32, key: u32) -> Turned
 }
 
 // The key where the search for key ends from slot s on: in a sound pool all keys there are above key, and it is the smallest.
+#[tactic(auto, unfolding(crate::specs::Spanning::next_beside))]
 fn next_beside(pool: &[u32], s: u32, key: u32) -> Answer
     ensures { result ≡ next_beside pool.now key s }
 {
@@ -72,6 +75,7 @@ fn next_beside(pool: &[u32], s: u32, key: u32) -> Answer
 
 // The smallest key at or above key, in the tree under the root; 6 if there is none. 01: "root slot (0 if empty)". It goes down one way, and where
 // that ends below key a second one, each of at most C slots.
+#[tactic(auto, unfolding(crate::specs::Spanning::at_or_above, crate::specs::Spanning::next_at))]
 pub fn at_or_above(pool: &[u32], root: u32, key: u32) -> Answer
     ensures answer { result ≡ at_or_above pool.now root key }
 {
@@ -86,6 +90,7 @@ pub fn at_or_above(pool: &[u32], root: u32, key: u32) -> Answer
     Answer::Done(c.key)
 }
 
+#[tactic(auto, unfolding(crate::specs::Spanning::next_answer))]
 pub fn next_key(pool: &[u32], key: u32) -> Answer
     ensures answer { result ≡ next_answer pool.now key }
 {
@@ -101,6 +106,7 @@ struct Tally {
 }
 
 // 1 for a key from a to b, else 0.
+#[tactic(auto, unfolding(tree::specs::Tree::one))]
 fn one_within(a: u32, b: u32, k: u32) -> u32
     ensures { result ≡ one (within a b k) }
 {
@@ -114,6 +120,7 @@ fn one_within(a: u32, b: u32, k: u32) -> u32
 }
 
 // A slot was visited: so many keys more, one slot fewer to go.
+#[tactic(auto, unfolding(crate::specs::Spanning::visited))]
 fn visited(t: Tally, keys: u32) -> Tally
     ensures { result ≡ visited t keys }
 {
@@ -154,6 +161,7 @@ fn tally_from(pool: &[u32], a: u32, b: u32, s: u32, deep: u32, t: Tally) -> Tall
 }
 
 // How many keys from a to b stand in the tree under the root.
+#[tactic(auto, unfolding(crate::specs::Spanning::count_under))]
 pub fn count_under(pool: &[u32], root: u32, a: u32, b: u32) -> Answer
     ensures answer { result ≡ count_under pool.now root a b }
 {
@@ -169,6 +177,7 @@ pub fn count_under(pool: &[u32], root: u32, a: u32, b: u32) -> Answer
     Answer::Done(found.keys)
 }
 
+#[tactic(auto, unfolding(crate::specs::Spanning::count_answer))]
 pub fn count(pool: &[u32], a: u32, b: u32) -> Answer
     ensures answer { result ≡ count_answer pool.now a b }
 {
@@ -177,6 +186,7 @@ pub fn count(pool: &[u32], a: u32, b: u32) -> Answer
 }
 
 // The smallest key from `next` to b, in the tree under the root; 6 if there is none. `next` may be one more than the last 32-bit number.
+#[tactic(auto, using(crate::proofs::SpanTurns::no_key, crate::proofs::SpanTurns::none_at, crate::proofs::SpanTurns::not_above_lem, crate::proofs::SpanTurns::above), unfolding(crate::specs::Spanning::next_to))]
 fn next_to(pool: &[u32], root: u32, next: u64, b: u32) -> Answer
     ensures { result ≡ next_to pool.now root next b }
 {
@@ -201,6 +211,7 @@ fn after(key: u32) -> u64
 
 // 02 (vii): "delete all keys from a to b, smallest first, answering how many went." Each is found as `at_or_above` finds it, and deleted by a way of
 // its own.
+#[tactic(auto, using(crate::proofs::SpanTurns::no_key, crate::proofs::SpanTurns::delete_ends, crate::proofs::SpanTurns::delete_none, crate::proofs::SpanTurns::delete_next), unfolding(crate::specs::Spanning::delete_span_under))]
 pub fn delete_span_under(pool: &mut [u32], h: Header, a: u32, b: u32) -> Performed
     ensures result { result ≡ (delete_span_under pool.old h a b).result }
     ensures pool { pool.new ≡ (delete_span_under pool.old h a b).words }
@@ -228,6 +239,7 @@ pub fn delete_span_under(pool: &mut [u32], h: Header, a: u32, b: u32) -> Perform
     }
 }
 
+#[tactic(auto, unfolding(crate::specs::Spanning::delete_span_answer, crate::specs::Spanning::delete_span_words))]
 pub fn delete_span(pool: &mut [u32], a: u32, b: u32) -> Answer
     ensures answer { result ≡ delete_span_answer pool.old a b }
     ensures pool { pool.new ≡ delete_span_words pool.old a b }
