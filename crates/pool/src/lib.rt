@@ -108,6 +108,7 @@ pub fn join(w: u32, rest: u32, al: u32, bl: u32) -> Walk
 // The tree at slot s, its keys from lo to below hi, at most `left` nodes deep, of at most `most` nodes. A right side may have the nodes
 // that its left side left over, and the first fault ends the walk: at most most + 1 calls in all, on any words (`tree_visits` in
 // proofs/Visits.antt).
+#[tactic(auto, using(crate::proofs::Tours::tour_deep, crate::proofs::Tours::tour_many, crate::proofs::Tours::tour_outside, crate::proofs::Tours::tour_leaf, crate::proofs::Tours::tour_inner, crate::proofs::Tours::inner_left, crate::proofs::Tours::inner_right, crate::proofs::Tours::inner_both))]
 fn walk_tree(pool: &[u32], s: u32, lo: u64, hi: u64, left: u32, most: u32) -> Walk
     ensures { result ≡ (tree_tour left pool.now s lo hi most).answer }
 {
