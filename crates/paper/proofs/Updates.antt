@@ -13,7 +13,7 @@ use Rattle.tree.specs.Tree.{Tree, leaf, node, is_leaf, Chromatic}
 use Rattle.tree.specs.Updates.{reach, reached_key, moved_to, insert_at, Cut, cut}
 use Rattle.tree.specs.State.{State, full, Sound, Outcome, insert, delete}
 use Rattle.tree.proofs.Tests.{either_way}
-use Rattle.tree.proofs.Search.{reach_left, reach_right}
+use Rattle.tree.proofs.Reach.{reach_left, reach_right}
 use Rattle.tree.proofs.SoundStates.{tree_good}
 use Rattle.tree.proofs.Insert.{Ins, insert_at_is}
 use Rattle.tree.proofs.Insert as Insert

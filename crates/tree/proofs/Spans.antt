@@ -20,19 +20,12 @@ use Rattle.tree.specs.State.{State, Top, empty, full, keys_of, is_in, key_end, S
 use Rattle.tree.specs.Spans.{first_from, key_or_absent, next_key}
 use Rattle.tree.proofs.Tests.{either_way, one_same, one_other}
 use Rattle.tree.proofs.Order.{All, Rising, ordered_bounds, occurs_above, keys_rising}
-use Rattle.tree.proofs.Search.{reach_left}
+use Rattle.tree.proofs.FirstFrom.{first_here, first_later}
+use Rattle.tree.proofs.Reach.{reach_left}
 use Rattle.tree.proofs.SoundStates.{tree_good}
 use Rattle.tree.proofs.Updated.{is_in_tree, is_in_once}
 
 -- The first of a list that rises
-
-first_here : (x k : ℕ) (ks : List ℕ) → x ≤ k → first_from x (k ∷ ks) ≡ some k
-unfolding first_from
-first_here x k ks h = rw (le-leb x k h, first_from)
-
-first_later : (x k : ℕ) (ks : List ℕ) → k < x → first_from x (k ∷ ks) ≡ first_from x ks
-unfolding first_from
-first_later x k ks h = rw (lt-leb x k h, first_from)
 
 -- k is in the list, at or above x, and none between is; or none at or above x is.
 data FirstSays (x : ℕ) (ks : List ℕ) : Option ℕ → Type 0 where
