@@ -1,14 +1,11 @@
 -- Deleting a span on any words, key by key: where it ends, and that with a next key it goes on from the one after that, with one key fewer to go.
 -- Assumes nothing.
-use Rattle.std.proofs.Common.{◌≡◌, ℕ, zero, suc, ◌+◌, ◌-◌, ◌<◌, ◌≤◌, true, false, List, [], ◌∷◌, refl, ⊎_elim, add-one, sub-one, arith, le-leb}
-use types.Run.{OneOf}
-use denote.Enum.Declared.{tag_of}
+use Rattle.std.proofs.Common.{◌≡◌, ℕ, zero, suc, ◌+◌, ◌-◌, ◌<◌, ◌≤◌, ◌≢◌, true, false, List, refl, add-one, sub-one, arith, le-leb}
 use borrow.Author.Tests.{lt-leb}
 use Rattle.tree.specs.declared.Answer.{Answer}
 use Rattle.tree.specs.declared.Answer.TheVariants.{Done, Refused, Spent}
 use Rattle.tree.specs.declared.Refusal.{Refusal}
 use Rattle.tree.specs.declared.Refusal.TheVariants.{KeyAbsent}
-use Rattle.tree.specs.contracts.Answer.{the_type}
 use Rattle.format.specs.declared.Header.{Header}
 use Rattle.format.specs.Performing.{written}
 use Rattle.updates.specs.Updating.{delete_under}
@@ -19,9 +16,9 @@ pub data NoKey : Answer → Type 0 where
   refused : {f : Refusal} → NoKey (Refused f)
   spent : {n : ℕ} → NoKey (Spent n)
 
--- as the code tells: by its tag
-pub no_key : (r : Answer) → OneOf (1 ∷ 2 ∷ []) (tag_of the_type r) → NoKey r
-no_key (Done n) w = absurd (⊎_elim (λ e. omega (arith, e)) (λ e. omega (arith, e)) w)
+-- as the code tells: it is not `Done`
+pub no_key : (r : Answer) → ((k : ℕ) → r ≢ Done k) → NoKey r
+no_key (Done n) w = absurd (w n refl)
 no_key (Refused f) w = refused
 no_key (Spent n) w = spent
 

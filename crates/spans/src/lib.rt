@@ -133,6 +133,7 @@ fn visited(t: Tally, keys: u32) -> Tally
 // The keys from a to b under slot s, at most `deep` slots down, with what was found before; at most t.left slots are visited. All keys on the left
 // of a router are at most the router and all on the right are above it, so a side without a key of the span is not entered (`any_visits` and
 // `count_visits_lem` in proofs/Visits.antt).
+#[tactic(auto, using(crate::proofs::Tallies::tally_deep, crate::proofs::Tallies::tally_many, crate::proofs::Tallies::tally_leaf, crate::proofs::Tallies::tally_inner), unfolding(crate::specs::Spanning::at_router, crate::specs::Spanning::entering))]
 fn tally_from(pool: &[u32], a: u32, b: u32, s: u32, deep: u32, t: Tally) -> Tally
     ensures { result ≡ tally_from deep pool.now a b s t }
 {
@@ -186,7 +187,7 @@ pub fn count(pool: &[u32], a: u32, b: u32) -> Answer
 }
 
 // The smallest key from `next` to b, in the tree under the root; 6 if there is none. `next` may be one more than the last 32-bit number.
-#[tactic(auto, using(crate::proofs::SpanTurns::no_key, crate::proofs::SpanTurns::none_at, crate::proofs::SpanTurns::not_above_lem, crate::proofs::SpanTurns::above), unfolding(crate::specs::Spanning::next_to))]
+#[tactic(auto, using(crate::proofs::SpanTurns::none_at, crate::proofs::SpanTurns::not_above_lem, crate::proofs::SpanTurns::above), unfolding(crate::specs::Spanning::next_to))]
 fn next_to(pool: &[u32], root: u32, next: u64, b: u32) -> Answer
     ensures { result ≡ next_to pool.now root next b }
 {
@@ -211,7 +212,7 @@ fn after(key: u32) -> u64
 
 // 02 (vii): "delete all keys from a to b, smallest first, answering how many went." Each is found as `at_or_above` finds it, and deleted by a way of
 // its own.
-#[tactic(auto, using(crate::proofs::SpanTurns::no_key, crate::proofs::SpanTurns::delete_ends, crate::proofs::SpanTurns::delete_none, crate::proofs::SpanTurns::delete_next), unfolding(crate::specs::Spanning::delete_span_under))]
+#[tactic(auto, using(crate::proofs::SpanTurns::delete_ends, crate::proofs::SpanTurns::delete_none, crate::proofs::SpanTurns::delete_next), unfolding(crate::specs::Spanning::delete_span_under))]
 pub fn delete_span_under(pool: &mut [u32], h: Header, a: u32, b: u32) -> Performed
     ensures result { result ≡ (delete_span_under pool.old h a b).result }
     ensures pool { pool.new ≡ (delete_span_under pool.old h a b).words }
