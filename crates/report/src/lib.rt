@@ -232,7 +232,7 @@ fn zeros() -> Figures
 
 // The numbers of the tree that the words show, which passed the audit with the header h; L is read there. The walks go no deeper than the
 // audit's does.
-#[tactic(auto, using(format::proofs::AuditCases::rules_are_kept, pool::proofs::Standing::no_root, pool::proofs::Standing::root_standing, crate::proofs::Reports::root_bound_fits, crate::proofs::Reports::counted_nodes, crate::proofs::Reports::root_report), unfolding(tree::specs::State::report))]
+#[tactic(auto, using(format::proofs::AuditCases::rules_are_kept, pool::proofs::Standing::no_root), unfolding(tree::specs::State::report))]
 fn figures(pool: &[u32], h: Header) -> Figures
     requires { audited pool.now ≡ Passed h }
     ensures { result ≡ report (state_of pool.now).top }
