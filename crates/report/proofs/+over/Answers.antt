@@ -44,7 +44,7 @@ adding-requires t c =
           w.joined-u.ensures)
     ] in
     let low : c.excess-above.result ≤ most_sum = excess_low c.requires under c.get_slot-c.ensures c.excess-above.ensures in
-    overs_fit c.requires under low low c.outside.ensures
+    overs_fit c.requires under (omega (arith, low)) low c.outside.ensures
 
 pub returns : goal.returns
 returns t c =
