@@ -3,8 +3,9 @@
 -- (`double_others_stay`).
 -- Why: t stands between u and v and has keys on either side, so its router is not v's; no slot stands in a tree twice, so no child word is
 -- written as it was, and the six places are different. Left and right are one law over a side (Sides.antt). Assumes nothing.
-use Rattle.std.proofs.Common.{◌≡◌, ℕ, suc, ◌+◌, ◌<◌, ◌≤◌, Bool, true, eqb, ◌≢◌, List, [], ◌∷◌, length, get_or, set, sym, refl, ◌∙◌, arith, length-set, get_or-set_other, get_or-set_same, eq-eqb, ne_eqb}
+use Rattle.std.proofs.Common.{◌≡◌, ℕ, suc, ◌+◌, ◌<◌, ◌≤◌, Bool, true, eqb, ◌≢◌, List, [], ◌∷◌, length, get_or, set, sym, refl, ap, ◌∙◌, arith, length-set, get_or-set_other, get_or-set_same, eq-eqb, ne_eqb}
 use Rattle.tree.specs.Tree.{Tree, node, slot_of, one, count, count_in, Ordered}
+use Rattle.tree.specs.declared.Kind.{Kind}
 use Rattle.tree.specs.Kinds.{condition_at}
 use Rattle.tree.specs.State.{State, full, key_end, Sound}
 use Rattle.tree.proofs.Counts.{same_or_not, one_same, one_other, not_same, root_count, count_root}
@@ -58,7 +59,8 @@ unfolding count_in changed one
 changed_more {p} {q} {is} c i x new inside other = record {
   same_length = length-set q i x ∙ c.same_length;
   exactly = λ j. same_or_not j i
-      (λ e. rw (e, one_same i i refl, apart_count i is new, get_or-set_same q i x 0 (omega (arith, c.same_length)), ne_eqb x (get_or p i 0) other))
+      (λ e. let none : count_in j is ≡ 0 = ap (λ (k : ℕ). count_in k is) e ∙ apart_count i is new in
+      rw (none, e, one_same i i refl, get_or-set_same q i x 0 (omega (arith, c.same_length)), ne_eqb x (get_or p i 0) other))
       (λ n. rw (one_other j i n, get_or-set_other q i j x 0 n) (omega (arith, c.exactly j)));
 }
 
@@ -147,21 +149,27 @@ local_changes left lo hi (double_left_case {i = i} {m = m} {c = c}) h o n root =
 local_changes right lo hi (double_right_case {i = i} {m = m} {b = b}) h o n root =
     doubles_change on_right on_right on_right h n (λ e. omega (arith, ordered_bounds (suc i) (suc m) b o.1.0.0)) root
 
-step_changes : (d : Side) (lo hi : ℕ) {s w x : ℕ} {t b : Tree} → Step (double d) s w t x b → {p : List ℕ} → Holds p w t → Ordered lo hi t → ((x : ℕ) → count x t ≤ 1) → (root : Bool)
+step_changes : (d : Side) (lo hi : ℕ) {k : Kind} {s w x : ℕ} {t b : Tree} → Step k s w t x b → k ≡ double d → {p : List ℕ} → Holds p w t → Ordered lo hi t → ((x : ℕ) → count x t ≤ 1) → (root : Bool)
     → ChangedAt p (applied p s (double d) root (around_at p s)) (six_words (near d) (away d) p s)
 unfolding Ordered count
-step_changes d lo hi (here l) h o n root = local_changes d lo hi l h o n root
-step_changes d lo hi (in_left {i = k} i) (holds_node h hl hr) o n root = step_changes d lo (suc k) i hl o.0 (λ x. omega (arith, n x)) root
-step_changes d lo hi (in_right {i = k} i) (holds_node h hl hr) o n root = step_changes d (suc k) hi i hr o.1 (λ x. omega (arith, n x)) root
+step_changes d lo hi (here l) e h o n root = local_changes d lo hi (rw e at l) h o n root
+step_changes d lo hi (in_left {i = k} i) e (holds_node h hl hr) o n root = step_changes d lo (suc k) i e hl o.0 (λ x. omega (arith, n x)) root
+step_changes d lo hi (in_right {i = k} i) e (holds_node h hl hr) o n root = step_changes d (suc k) hi i e hr o.1 (λ x. omega (arith, n x)) root
 
 -- The six words leave what the whole slots leave.
-step_whole : (d : Side) {s w x : ℕ} {t b : Tree} → Step (double d) s w t x b → {p : List ℕ} → Holds p w t → ((x : ℕ) → count x t ≤ 1) → (root : Bool)
+local_whole : (d : Side) {s w i wl wr x : ℕ} {l r b : Tree} → Local (double d) w (node s i wl l wr r) x b → {p : List ℕ} → Holds p w (node s i wl l wr r)
+    → ((x : ℕ) → count x (node s i wl l wr r) ≤ 1) → (root : Bool)
     → applied p s (double d) root (around_at p s) ≡ put_change p s (effect (double d) root (around_at p s))
-unfolding applied put_effect count
-step_whole left (here double_left_case) h n root = double_whole (three on_left on_left on_left h n) root
-step_whole right (here double_right_case) h n root = double_whole (three on_right on_right on_right h n) root
-step_whole d (in_left i) (holds_node h hl hr) n root = step_whole d i hl (λ x. omega (arith, n x)) root
-step_whole d (in_right i) (holds_node h hl hr) n root = step_whole d i hr (λ x. omega (arith, n x)) root
+unfolding applied put_effect
+local_whole left double_left_case h n root = double_whole (three on_left on_left on_left h n) root
+local_whole right double_right_case h n root = double_whole (three on_right on_right on_right h n) root
+
+step_whole : (d : Side) {k : Kind} {s w x : ℕ} {t b : Tree} → Step k s w t x b → k ≡ double d → {p : List ℕ} → Holds p w t → ((x : ℕ) → count x t ≤ 1) → (root : Bool)
+    → applied p s (double d) root (around_at p s) ≡ put_change p s (effect (double d) root (around_at p s))
+unfolding count
+step_whole d (here l) e h n root = local_whole d (rw e at l) h n root
+step_whole d (in_left i) e (holds_node h hl hr) n root = step_whole d i e hl (λ x. omega (arith, n x)) root
+step_whole d (in_right i) e (holds_node h hl hr) n root = step_whole d i e hr (λ x. omega (arith, n x)) root
 
 module _ (S : State) (t : Tree) (sound : Sound S) (e : S.top ≡ full t) {h : Header} (p : List ℕ) (shows : Shows h p S) where
   pub double_changes : (d : Side) (s : ℕ) → condition_at (double d) s t ≡ true
@@ -169,10 +177,10 @@ module _ (S : State) (t : Tree) (sound : Sound S) (e : S.top ≡ full t) {h : He
   double_changes d s c =
       let good = tree_good S t sound e in
       let once = tree_once S t sound e in
-      step_changes d 0 key_end (made (double d) s t good.chromatic (once s) c).step (shows_tree shows e) good.ordered once _
+      step_changes d 0 key_end (made (double d) s t good.chromatic (once s) c).step refl (shows_tree shows e) good.ordered once _
 
   pub double_as_before : (d : Side) (s : ℕ) → condition_at (double d) s t ≡ true → (root : Bool)
       → applied p s (double d) root (around_at p s) ≡ put_change p s (effect (double d) root (around_at p s))
   double_as_before d s c root =
       let once = tree_once S t sound e in
-      step_whole d (made (double d) s t (tree_good S t sound e).chromatic (once s) c).step (shows_tree shows e) once root
+      step_whole d (made (double d) s t (tree_good S t sound e).chromatic (once s) c).step refl (shows_tree shows e) once root
