@@ -12,7 +12,7 @@ use native.Mathlib.Omega.{arith}
 use native.Mathlib.Decide.{dec_le}
 use lib.Dec.{leb}
 use borrow.Author.Tests.{le-leb, lt-leb}
-use Prim.Native.Nat.{ℕ, zero, suc, ◌+◌, ◌≤◌}
+use Prim.Native.Nat.{ℕ, zero, suc, ◌≤◌}
 use Rattle.tree.specs.declared.Kind.{Kind}
 use Rattle.tree.specs.Codes.{kinds}
 use Rattle.tree.specs.Tree.{Tree, is_leaf, count, count_in}
