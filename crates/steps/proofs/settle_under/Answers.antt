@@ -1,3 +1,4 @@
+-- A turn of the loop: the step that is taken is the one that `Turn` says comes next. Assumes nothing.
 use Rattle.std.proofs.Common.{arith}
 use Rattle.steps.proofs.SettleTurns.{turn}
 use Rattle.steps.proofs.settle_under.Goals as goal
