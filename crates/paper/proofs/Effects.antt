@@ -5,7 +5,7 @@
 -- slot stands twice, so the change passes the other subtrees by. Assumes nothing.
 use mathlib.Core.Path.{◌≡◌, refl, sym, ap}
 use mathlib.Core.Logic.{◌↔◌}
-use mathlib.Core.Bool.{true, false, false≢true}
+use mathlib.Core.Bool.{true, false≢true}
 use mathlib.Core.List.{List, []}
 use borrow.Author.Tests.{eq-eqb}
 use native.Mathlib.Omega.{arith}
@@ -118,7 +118,7 @@ pub record CaseAt (c : Case) (d : Side) (way : List Side) (p : Parent) (t : Tree
   pub conflict : Conflict (forget subtree)
   pub applies : Applies c d parent (forget subtree)
 
-pub case_at : {c : Case} {d : Side} {way : List Side} {p q : Parent} {T : FullTree} (t : Tree) → Rebalancing c d way p (forget t) q T → CaseAt c d way p t
+pub case_at : {c : Case} {d : Side} {way : List Side} {p q : Parent} (t : Tree) {T : FullTree} → Rebalancing c d way p (forget t) q T → CaseAt c d way p t
 unfolding forget slot_of
 case_at {p} (leaf s k) (Paper.Rebalancing.here x a) =
     record { slot = s; subtree = leaf s k; parent = p; stands = Ours.Stands.here refl; conflict = x; applies = a }

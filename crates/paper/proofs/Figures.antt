@@ -10,7 +10,7 @@ use mathlib.Core.List.{List}
 use native.Mathlib.Omega.{arith}
 use Prim.Native.Nat.{ℕ, ◌+◌}
 use Rattle.tree.specs.declared.Kind.{Kind}
-use Rattle.tree.specs.Tree.{Tree, leaf, node, level, Chromatic}
+use Rattle.tree.specs.Tree.{Tree, leaf, node, Chromatic}
 use Rattle.tree.specs.Kinds.{effect}
 use Rattle.tree.proofs.Relation.{Local}
 use Rattle.tree.proofs.Steps.{local_sound}

@@ -45,7 +45,7 @@ stands_at (in_right h) = at_right (stands_at h)
 pub data Standing (s w : ℕ) (u : Tree) (p : Parent) (t : Tree) : Type 0 where
   standing : {way : List Side} {q : Parent} → Stands s u way p t q → weight_of q ≡ w → Standing s w u p t
 
-pub at_stands : {s w x : ℕ} {u t : Tree} → At s w u x t → (p : Parent) → weight_of p ≡ x → Standing s w u p t
+pub at_stands : {s w : ℕ} {u : Tree} {x : ℕ} {t : Tree} → At s w u x t → (p : Parent) → weight_of p ≡ x → Standing s w u p t
 unfolding weight_of
 at_stands (at_root e) p f = standing (here (sym e)) f
 at_stands {s} {w} {u} (at_left {v} {i} {wl} {wr} {l} {r} a) p f = go (at_stands a (edge wl) refl)

@@ -67,7 +67,9 @@ next_red (node s k wl l wr r) (down to_right p) z = rw z (omega arith)
 
 no_two_red : (t : Tree) {ws : List ℕ} {v : FullTree} → conflicts t ≡ 0 → Path (forget t) ws v → TwoRed ws → ⊥
 unfolding conflicts if_red forget
+no_two_red (leaf s k) c stay h = elim h [ ]
 no_two_red (leaf s k) c (down e p) h = elim e [ ]
+no_two_red (node s k wl l wr r) c stay h = elim h [ ]
 no_two_red (node s k wl l wr r) c (down to_left p) (these a b) = omega (arith, next_red l p b, rw a at c)
 no_two_red (node s k wl l wr r) c (down to_right p) (these a b) = omega (arith, next_red r p b, rw a at c)
 no_two_red (node s k wl l wr r) c (down to_left p) (further h) = no_two_red l (omega arith) p h

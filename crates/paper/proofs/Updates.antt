@@ -4,7 +4,7 @@
 -- Why: by induction on `Ins` and `Del`, which read like Section 3; where a search ends, the paper's weights are ours. Assumes nothing.
 use mathlib.Core.Path.{◌≡◌, refl, sym, ap}
 use mathlib.Core.Logic.{◌↔◌, ◌≢◌}
-use mathlib.Core.Bool.{true, false, false≢true}
+use mathlib.Core.Bool.{false, false≢true}
 use native.Mathlib.Omega.{arith}
 use Prim.Native.Nat.{ℕ, zero, suc, pred, ◌+◌, ◌≤◌, ◌<◌, min, max}
 use Rattle.tree.specs.declared.Refusal.TheVariants.{NoRoom}
@@ -124,31 +124,39 @@ unfolding weight_of reweighed joined
 joined_sum w root = refl
 joined_sum w (edge p) = ap edge (omega arith)
 
-deletion_whole : {x : ℕ} {t : Tree} {c : Cut} (p : Parent) → Del x (weight_of p) t c → Deletion x p (forget t) (reweighed p c.weight) (forget c.tree)
+-- `w` is the weight of what the tree hangs from: `Del` is gone down, so its weight is a variable of its own.
+deletion_from : {x w : ℕ} {t : Tree} {c : Cut} (p : Parent) → Del x w t c → w ≡ weight_of p → Deletion x p (forget t) (reweighed p c.weight) (forget c.tree)
 unfolding forget cut weight_of reweighed
-deletion_whole p (cut_left {v} {wr} {r} h) = rw (joined_sum wr p, forget_moved v r) (left_removed h)
-deletion_whole p (cut_right {v} {wl} {l} h) = rw (joined_sum wl p, forget_moved v l) (right_removed h)
-deletion_whole p (Delete.Del.in_left {wl} h d) = rw (reweighed_same p) (Paper.Deletion.in_left h (deletion_whole (edge wl) d))
-deletion_whole p (Delete.Del.in_right {wr} h d) = rw (reweighed_same p) (Paper.Deletion.in_right h (deletion_whole (edge wr) d))
+deletion_from p (cut_left {v} {wr} {r} h) e = rw (e, joined_sum wr p, forget_moved v r) (left_removed h)
+deletion_from p (cut_right {v} {wl} {l} h) e = rw (e, joined_sum wl p, forget_moved v l) (right_removed h)
+deletion_from p (Delete.Del.in_left {wl} h d) e = rw (e, reweighed_same p) (Paper.Deletion.in_left h (deletion_from (edge wl) d refl))
+deletion_from p (Delete.Del.in_right {wr} h d) e = rw (e, reweighed_same p) (Paper.Deletion.in_right h (deletion_from (edge wr) d refl))
+
+deletion_whole : {x : ℕ} {t : Tree} {c : Cut} (p : Parent) → Del x (weight_of p) t c → Deletion x p (forget t) (reweighed p c.weight) (forget c.tree)
+deletion_whole p d = deletion_from p d refl
+
+-- The key stands twice, as x and as y: where a leaf is removed both are the leaf's.
+one_deletion_of : {x y : ℕ} {p q q₁ : Parent} {T T' T₁ : FullTree} → x ≡ y → Deletion x p T q T' → Deletion y p T q₁ T₁ → (q ≡ q₁) × (T' ≡ T₁)
+one_deletion_of e (not_found h) (not_found g) = (refl, refl)
+one_deletion_of e (Paper.Deletion.in_left h i) (Paper.Deletion.in_left g j) = let o = one_deletion_of e i j in (refl, rw (edges_same o.0, o.1))
+one_deletion_of e (Paper.Deletion.in_left h i) (Paper.Deletion.in_right g j) = absurd (omega arith)
+one_deletion_of e (Paper.Deletion.in_left h (not_found n)) (left_removed g) = absurd (n e)
+one_deletion_of e (Paper.Deletion.in_left h i) (right_removed g) = absurd (omega arith)
+one_deletion_of e (Paper.Deletion.in_right h i) (Paper.Deletion.in_left g j) = absurd (omega arith)
+one_deletion_of e (Paper.Deletion.in_right h i) (Paper.Deletion.in_right g j) = let o = one_deletion_of e i j in (refl, rw (edges_same o.0, o.1))
+one_deletion_of e (Paper.Deletion.in_right h i) (left_removed g) = absurd (omega arith)
+one_deletion_of e (Paper.Deletion.in_right h (not_found n)) (right_removed g) = absurd (n e)
+one_deletion_of e (left_removed h) (Paper.Deletion.in_left g (not_found n)) = absurd (n (sym e))
+one_deletion_of e (left_removed h) (Paper.Deletion.in_right g j) = absurd (omega arith)
+one_deletion_of e (left_removed h) (left_removed g) = (refl, refl)
+one_deletion_of e (left_removed h) (right_removed g) = absurd (omega arith)
+one_deletion_of e (right_removed h) (Paper.Deletion.in_left g j) = absurd (omega arith)
+one_deletion_of e (right_removed h) (Paper.Deletion.in_right g (not_found n)) = absurd (n (sym e))
+one_deletion_of e (right_removed h) (left_removed g) = absurd (omega arith)
+one_deletion_of e (right_removed h) (right_removed g) = (refl, refl)
 
 pub one_deletion : {x : ℕ} {p q q₁ : Parent} {T T' T₁ : FullTree} → Deletion x p T q T' → Deletion x p T q₁ T₁ → (q ≡ q₁) × (T' ≡ T₁)
-one_deletion (not_found h) (not_found g) = (refl, refl)
-one_deletion (Paper.Deletion.in_left h i) (Paper.Deletion.in_left g j) = let e = one_deletion i j in (refl, rw (edges_same e.0, e.1))
-one_deletion (Paper.Deletion.in_left h i) (Paper.Deletion.in_right g j) = absurd (omega arith)
-one_deletion (Paper.Deletion.in_left h (not_found n)) (left_removed g) = absurd (n refl)
-one_deletion (Paper.Deletion.in_left h i) (right_removed g) = absurd (omega arith)
-one_deletion (Paper.Deletion.in_right h i) (Paper.Deletion.in_left g j) = absurd (omega arith)
-one_deletion (Paper.Deletion.in_right h i) (Paper.Deletion.in_right g j) = let e = one_deletion i j in (refl, rw (edges_same e.0, e.1))
-one_deletion (Paper.Deletion.in_right h i) (left_removed g) = absurd (omega arith)
-one_deletion (Paper.Deletion.in_right h (not_found n)) (right_removed g) = absurd (n refl)
-one_deletion (left_removed h) (Paper.Deletion.in_left g (not_found n)) = absurd (n refl)
-one_deletion (left_removed h) (Paper.Deletion.in_right g j) = absurd (omega arith)
-one_deletion (left_removed h) (left_removed g) = (refl, refl)
-one_deletion (left_removed h) (right_removed g) = absurd (omega arith)
-one_deletion (right_removed h) (Paper.Deletion.in_left g j) = absurd (omega arith)
-one_deletion (right_removed h) (Paper.Deletion.in_right g (not_found n)) = absurd (n refl)
-one_deletion (right_removed h) (left_removed g) = absurd (omega arith)
-one_deletion (right_removed h) (right_removed g) = (refl, refl)
+one_deletion h g = one_deletion_of refl h g
 
 pub delete_as_paper : (x : ℕ) (S : State) → Sound S → (t : Tree) → S.top ≡ full t → is_leaf t ≡ false
     → OnlyTree (λ T. Deletion x root (forget t) root T) (delete x S).after
