@@ -147,7 +147,7 @@ module _ (bytes : List ℕ) (at lo hi left most : ℕ) {a i k j : ℕ} (first : 
           record {
             wr = Q.wr;
             r = Q.r;
-            right_there = rw S.End-same at Q.right_there;
+            right_there = rw S.end_same at Q.right_there;
             right_fits = P.right_fits;
             nodes_are = omega (arith, P.nodes_are, alike_size S.tree_same, A.nodes_are);
             same_sum = sym sum ∙ P.same_sum;

@@ -95,7 +95,7 @@ module _ (bytes : List ℕ) (at n : ℕ) where
         weight_is = let W = first_number_lem F.there in omega (arith, W.weight_is, (one_read W.reads first).0)
 
         pub top_sum : a / 2 ≤ l
-        top_sum = omega (arith, weight_is, F.sum_is_lem)
+        top_sum = omega (arith, weight_is, F.sum_is)
 
         pub top_whole : rest ≡ 0 → a / 2 ≡ 1 → eqb next (length bytes) ≡ true → {m : ℕ} → m ≡ l - 1 → TopSays bytes at n (Level m)
         unfolding nodes GoodTop level_top
@@ -106,7 +106,7 @@ module _ (bytes : List ℕ) (at n : ℕ) where
             good = fits_good (weight_is ∙ one-weight) F.fits;
             nodes_are = omega (arith, F.nodes_are);
           },
-          omega (arith, weight_is, F.sum_is_lem),
+          omega (arith, weight_is, F.sum_is),
         )
 
 -- What is_count answers.

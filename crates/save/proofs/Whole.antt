@@ -11,7 +11,7 @@ use Rattle.tree.specs.declared.Refusal.TheVariants.{NoFit}
 use Rattle.tree.specs.declared.Answer.TheVariants.{Done, Refused}
 use Rattle.tree.specs.Codes.{most_slots}
 use Rattle.tree.specs.Tree.{Tree}
-use Rattle.tree.specs.State.{Top, full, nodes}
+use Rattle.tree.specs.State.{Top, full}
 use Rattle.tree.proofs.SoundStates.{sound_total}
 use Rattle.format.specs.declared.Header.{Header}
 use Rattle.format.specs.Words.{last_slot}
