@@ -104,7 +104,7 @@ enum JudgedTop {
 
 // The numbers from place `at` to the end, as one good tree of n nodes that hangs from an edge of weight 1; no numbers if n is 0. L is the sum
 // that judging the tree gave, less the root's weight, which counts in nothing.
-#[tactic(auto, using(crate::proofs::Wholes::top_none_past, crate::proofs::Wholes::top_none, crate::proofs::Wholes::top_cut, crate::proofs::Wholes::top_weight, crate::proofs::Wholes::top_fault, crate::proofs::Wholes::top_more, crate::proofs::Wholes::top_past, crate::proofs::Wholes::top_sum, crate::proofs::Wholes::top_whole))]
+#[tactic(auto, using(crate::proofs::Wholes::top_none_past, crate::proofs::Wholes::top_none, crate::proofs::Wholes::top_cut, crate::proofs::Wholes::top_weight, crate::proofs::Wholes::top_fault, crate::proofs::Wholes::top_more, crate::proofs::Wholes::top_past, crate::proofs::Wholes::top_sum))]
 fn judge_top(bytes: &[u8], at: usize, n: u32) -> JudgedTop
     requires { n < 2 ^ 31 }
     ensures { TopSays bytes.now at n result }
@@ -269,7 +269,7 @@ fn build(pool: &mut [u32], bytes: &[u8], at: usize, s: u32, left: u32) -> Place
 }
 
 // The whole set, none if n is 0.
-#[tactic(auto, using(crate::proofs::Filling::build_none, crate::proofs::Filling::build_able, crate::proofs::Filling::build_tree))]
+#[tactic(auto, using(crate::proofs::Filling::build_none, crate::proofs::Filling::build_able))]
 fn build_top(pool: &mut [u32], bytes: &[u8], n: u32, at: usize)
     requires { TopBuildable bytes.now n at }
     ensures { TopBuildSays bytes.now n at pool.old pool.new }
@@ -309,7 +309,6 @@ fn first_slot(n: u32) -> u32
 }
 
 // Tree, free slots and header, with L.
-#[tactic(auto, using(crate::proofs::Filling::build_words))]
 fn build_all(pool: &mut [u32], bytes: &[u8], c: u32, n: u32, level: u32, at: usize)
     requires { TopBuildable bytes.now n at × (n ≤ c) × (c + 1 < 2 ^ 32) }
     ensures { AllBuildSays bytes.now c n level at pool.old pool.new }
@@ -328,7 +327,7 @@ fn build_all(pool: &mut [u32], bytes: &[u8], c: u32, n: u32, level: u32, at: usi
 }
 
 // "the reader [answers] 0 and N"
-#[tactic(auto, using(saved::proofs::Restarts::both, saved::proofs::Restarts::load_length, saved::proofs::Restarts::load_bad, crate::proofs::Filling::load_able, crate::proofs::Filling::load_other, crate::proofs::Filling::load_filled))]
+#[tactic(auto, using(saved::proofs::Restarts::both, saved::proofs::Restarts::load_length, saved::proofs::Restarts::load_bad, crate::proofs::Filling::load_able, crate::proofs::Filling::load_other))]
 pub fn load(pool: &mut [u32], bytes: &[u8]) -> Answer
     ensures answer { result ≡ (load_call pool.old bytes.now).answer }
     ensures pool { pool.new ≡ (load_call pool.old bytes.now).left }

@@ -19,7 +19,7 @@ use tree::{Answer, Refusal};
 const TWICE: u32 = 2;
 
 // How many bytes two numbers take.
-#[tactic(auto, using(crate::proofs::Writing::pair_most, crate::proofs::Writing::pair_length_is))]
+#[tactic(auto, using(crate::proofs::Writing::pair_length_is))]
 fn pair_length(a: u32, b: u32) -> usize
     ensures { result ≡ length (bytes_of_all (a ∷ b ∷ [])) }
 {
@@ -27,7 +27,7 @@ fn pair_length(a: u32, b: u32) -> usize
 }
 
 // Writes two numbers from place `at` on, and answers the place after them.
-#[tactic(auto, using(crate::proofs::Writing::pair_length_is, crate::proofs::Writing::put_both))]
+#[tactic(auto, using(crate::proofs::Writing::pair_length_is))]
 fn put_pair(out: &mut [u8], at: usize, a: u32, b: u32) -> usize
     requires { at + length (bytes_of_all (a ∷ b ∷ [])) < 2 ^ 64 }
     ensures { Put (a ∷ b ∷ []) out.old out.new at result }
@@ -79,7 +79,7 @@ fn put_tree(pool: &[u32], out: &mut [u8], s: u32, at: usize, left: u32) -> usize
 }
 
 // The same of all nodes of a pool that passed the audit: none where the root is 0.
-#[tactic(auto, using(format::proofs::AuditCases::rules_are_kept, crate::proofs::Whole::nodes_none, crate::proofs::Whole::root_stands, crate::proofs::Whole::nodes_counted))]
+#[tactic(auto, using(format::proofs::AuditCases::rules_are_kept, crate::proofs::Whole::nodes_none, crate::proofs::Whole::root_stands))]
 fn nodes_length(pool: &[u32], h: Header) -> usize
     requires { audited pool.now ≡ Passed h }
     ensures { result ≡ length (bytes_of_all (top_numbers (state_of pool.now).top)) }
@@ -90,7 +90,7 @@ fn nodes_length(pool: &[u32], h: Header) -> usize
     tree_length(pool, h.root, allowance(pool))
 }
 
-#[tactic(auto, using(format::proofs::AuditCases::rules_are_kept, crate::proofs::Whole::put_none, crate::proofs::Whole::root_placed, crate::proofs::Whole::nodes_put))]
+#[tactic(auto, using(format::proofs::AuditCases::rules_are_kept, crate::proofs::Whole::root_placed))]
 fn put_nodes(pool: &[u32], out: &mut [u8], h: Header, at: usize) -> usize
     requires { (audited pool.now ≡ Passed h) × (at < 2 ^ 32) }
     ensures { Put (top_numbers (state_of pool.now).top) out.old out.new at result }

@@ -17,4 +17,4 @@ overflow_cast-result c =
 pub returns-clause-out : goal.returns-clause-out
 returns-clause-out c =
     let kept = rules_are_kept _ (λ i. omega (arith, c.type_inv.pool i)) c.requires in
-    (fit _ _ (saved_count kept c.last_slot-slots.ensures c.pair_length.ensures c.nodes_length.ensures) c.if-out-count.false (saved_wrote kept c.last_slot-slots.ensures c.put_pair-at.ensures c.put_nodes.ensures)).1
+    (fit _ _ (saved_count kept c.last_slot-slots.ensures c.pair_length.ensures c.nodes_length.ensures) (omega arith) (saved_wrote kept c.last_slot-slots.ensures c.put_pair-at.ensures c.put_nodes.ensures)).1
