@@ -36,6 +36,7 @@ fn digit(d: u32) -> u8
 }
 
 // The digits of x, at most `left`, from place `at` on; the place after them.
+#[tactic(auto, using(crate::proofs::Stores::put_none, crate::proofs::Stores::put_one, crate::proofs::Stores::put_more))]
 fn put_digits(out: &mut [u8], at: usize, x: u32, left: usize) -> usize
     requires { at + left ≤ length out.old }
     ensures next { result ≡ at + length (digits left x) }
