@@ -2,11 +2,10 @@
 -- a sound State under the header of now; and what they leave from here is what the call leaves. Assumes nothing.
 use mathlib.Core.Path.{◌≡◌, refl, sym, ap, ◌∙◌}
 use mathlib.Core.List.{List, [], ◌∷◌, ◌++◌}
-use Prim.Native.Nat.{ℕ, suc, ◌+◌, ◌*◌, ◌≤◌, ◌<◌}
+use Prim.Native.Nat.{ℕ, ◌+◌, ◌*◌, ◌≤◌, ◌<◌}
 use native.Mathlib.Omega.{arith}
 use lib.ListN.{length, length-append}
 use Rattle.tree.specs.State.{State, key_end, Sound}
-use Rattle.tree.specs.declared.Answer.{Answer}
 use Rattle.format.specs.declared.Header.{Header}
 use Rattle.format.specs.declared.Performed.{Performed}
 use Rattle.format.specs.Words.{put_header, words_of}

@@ -14,9 +14,8 @@ use Rattle.encoding.specs.declared.Operation.{Operation}
 use Rattle.encoding.specs.declared.Which.TheVariants.{Known}
 use Rattle.encoding.specs.declared.Command.{Command}
 use Rattle.encoding.specs.declared.Reading.TheVariants.{Fault}
-use Rattle.encoding.specs.Numbers.{number}
 use Rattle.encoding.specs.Operations.{operation_number, which}
-use Rattle.encoding.specs.Batch.{most_commands, last_argument, meant_at, operation_at, command_at, commands, bad_at, after, read_from, read_batch, Call, called, refused, batch}
+use Rattle.encoding.specs.Batch.{most_commands, last_argument, meant_at, operation_at, command_at, bad_at, after, read_from, read_batch, Call, called, refused, batch}
 use Rattle.commands.specs.Faults.{BadCommand, bad_operation, unknown, bad_first, bad_second, StandTo, none_stand, one_stands, BadFrom, bad_one, too_many, FirstBad}
 use Rattle.encoding.proofs.Endings.{Ending, length_refused, bad_command, few_answers, rules_refused, ran, ending, bad_ends}
 use Rattle.encoding.proofs.OperationNumbers.{which_known, which_number, which_unknown}

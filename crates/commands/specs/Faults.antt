@@ -1,6 +1,6 @@
 -- Document 01, code 3, and 02 (ii): in which ways a command is bad, and at which byte a batch goes wrong (RULES 7). (That the reader refuses
 -- exactly these, and gives that byte, is `bad_exactly`.)
-use Rattle.std.specs.Prelude.{◌≡◌, ◌≢◌, List, [], ◌∷◌, length, ℕ, suc, ◌<◌}
+use Rattle.std.specs.Prelude.{◌≡◌, ◌≢◌, List, [], ◌∷◌, length, ℕ, ◌<◌}
 use Rattle.encoding.specs.declared.Number.TheVariants.{Read}
 use Rattle.encoding.specs.declared.Operation.{Operation}
 use Rattle.encoding.specs.declared.Command.{Command}

@@ -1,5 +1,5 @@
 -- The bytes of commands, as a writer writes them (RULES 7): what a good batch is, read the other way.
-use Rattle.std.specs.Prelude.{◌≡◌, Bool, true, false, List, [], ◌∷◌, ◌++◌, eqb, ℕ, ◌<◌}
+use Rattle.std.specs.Prelude.{◌≡◌, true, false, List, [], ◌∷◌, ◌++◌, eqb, ℕ, ◌<◌}
 use Rattle.tree.specs.State.{key_end}
 use Rattle.encoding.specs.declared.Operation.{Operation}
 use Rattle.encoding.specs.declared.Command.{Command}

@@ -9,7 +9,7 @@ use mathlib.Core.List.{List, [], ◌∷◌, ◌++◌}
 use lib.ListN.{length, get_or, length-append}
 use native.Mathlib.Omega.{arith}
 use Prim.Native.Nat.{ℕ, ◌+◌, ◌*◌, ◌≤◌}
-use Rattle.tree.specs.State.{State, Sound}
+use Rattle.tree.specs.State.{Sound}
 use Rattle.format.specs.Audit.{state_of}
 use Rattle.format.proofs.AuditCases.{Words32}
 use Rattle.format.proofs.Rules.{show_rules}

@@ -6,7 +6,7 @@
 -- answer as without it). Before the call and after it the pool passes the audit (`ran_passing`, `passes_after`).
 -- Why: the definition asks for the causes in the order 1, 3, 4, 2, and each refusal gives back what it was lent; a command refused
 -- leaves the State as it was (crate tree). Assumes nothing.
-use mathlib.Core.Path.{◌≡◌, refl, ap, sym, ◌∙◌}
+use mathlib.Core.Path.{◌≡◌, refl, ap, ◌∙◌}
 use mathlib.Core.Logic.{◌↔◌, ◌≢◌}
 use mathlib.Core.Bool.{true, false}
 use mathlib.Core.List.{List, [], ◌∷◌, ◌++◌}

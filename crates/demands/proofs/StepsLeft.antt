@@ -10,7 +10,7 @@ use mathlib.Core.List.{List, [], ◌∷◌, ◌++◌}
 use lib.ListN.{length, get_or}
 use native.Mathlib.Decide.{dec_lt}
 use native.Mathlib.Omega.{arith}
-use Prim.Native.Nat.{ℕ, ◌+◌, ◌*◌, ◌≤◌, ◌<◌}
+use Prim.Native.Nat.{ℕ, ◌*◌, ◌≤◌}
 use Rattle.tree.specs.declared.Kind.{Kind}
 use Rattle.tree.specs.declared.Kind.TheVariants.{Lighten}
 use Rattle.tree.specs.declared.Answer.TheVariants.{Done}
@@ -25,14 +25,14 @@ use Rattle.encoding.specs.declared.Operation.TheVariants.{Step}
 use Rattle.encoding.specs.declared.Command.{Command}
 use Rattle.encoding.specs.Numbers.{Bytes}
 use Rattle.encoding.specs.Batch.{command, commands, read_batch, operation, perform, answers_of, run_all, answer_words, filled, Call, called, batch}
-use Rattle.encoding.specs.Causes.{Cause, slot_above, FirstCause, no_cause, first_cause}
+use Rattle.encoding.specs.Causes.{slot_above, FirstCause, no_cause, first_cause}
 use Rattle.encoding.proofs.Causes.{code_exactly, from_lowest}
 use Rattle.encoding.proofs.Endings.{ran_ends}
 use Rattle.encoding.proofs.Performs.{run_sound, small_append}
 use Rattle.commands.specs.Written.{command_bytes, Fits, AllFit}
 use Rattle.commands.proofs.Written.{command_bytes_lem, one_command}
 use Rattle.set.specs.Set.{Passing}
-use Rattle.set.specs.Balance.{bound_number, Balanced}
+use Rattle.set.specs.Balance.{Balanced}
 use Rattle.set.proofs.Passing.{passing_state}
 use Rattle.set.proofs.Balancing.{bound_shown, balanced_shown}
 use Rattle.set.proofs.Levels.{level_true}

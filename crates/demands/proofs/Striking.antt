@@ -2,13 +2,12 @@
 -- taken out, the rest is a batch whose call leaves the same pool and gives every other command the same two words (`struck`).
 -- Why: the bytes of a good batch are those of its commands, one after the other (crate commands' `struck_out`), and a refused command
 -- leaves the State as it was. Assumes nothing.
-use mathlib.Core.Path.{◌≡◌, refl, ap, sym, ◌∙◌}
-use mathlib.Core.List.{List, [], ◌∷◌, ◌++◌, append_assoc}
+use mathlib.Core.Path.{◌≡◌, ap, sym, ◌∙◌}
+use mathlib.Core.List.{List, ◌∷◌, ◌++◌, append_assoc}
 use lib.ListN.{length, get_or, drop, length-append, get_or-append}
 use lib.Seq.{get_or-append-add}
 use native.Mathlib.Omega.{arith}
 use Prim.Native.Nat.{ℕ, suc, ◌+◌, ◌*◌, ◌-◌, ◌≤◌, ◌<◌}
-use Rattle.tree.specs.declared.Answer.{Answer}
 use Rattle.tree.specs.Codes.{code_of, number_of}
 use Rattle.tree.specs.State.{State, Sound}
 use Rattle.format.specs.Words.{words_of}
@@ -22,8 +21,7 @@ use Rattle.encoding.proofs.Performs.{run_sound, small_append, perform_kept}
 use Rattle.encoding.proofs.AnswerWords.{run_append, answers_append, words_append, run_words_length}
 use Rattle.commands.specs.Written.{command_bytes, batch_bytes}
 use Rattle.commands.proofs.Written.{struck_out}
-use Rattle.set.specs.Set.{Passing}
-use Rattle.demands.proofs.Called.{Ran, call_ran}
+use Rattle.demands.proofs.Called.{call_ran}
 use Rattle.demands.proofs.Ends.{code_0, ran_passing, command_words}
 
 -- The call on `less` is the one on `bytes`, whose commands are n, without the one that follows the first m: it leaves the same words in

@@ -3,10 +3,8 @@
 -- first 160 of a notice's 65,536 keys are computed, which have all its marks here. And 02 (vii)'s delete of a span in the log of a batch call, in a
 -- second table: which keys the log tells to be in the set. Assumes nothing.
 use mathlib.Core.Path.{◌≡◌, refl}
-use mathlib.Core.Bool.{true, false, not, ◌&&◌, ◌||◌}
-use mathlib.Core.List.{List, [], ◌∷◌, ◌++◌}
-use lib.Dec.{eqb, leb, ltb}
-use lib.ListN.{length, get_or, set, replicate}
+use mathlib.Core.List.{List, [], ◌∷◌}
+use lib.ListN.{replicate}
 use Prim.Native.Nat.{ℕ}
 use Rattle.tree.specs.Codes.{code_of, number_of}
 use Rattle.tree.specs.Tree.{one, count, count_in, keys, slot_of, is_leaf, size, leaves, level}

@@ -1,6 +1,6 @@
 -- The send limit over sequences of all calls (RULES 17.6): what of a log it goes by, and 02's "one limit and no clearing". That no more than the
 -- allowed number of texts go is proved in proofs/.
-use Rattle.std.specs.Prelude.{◌≡◌, ◌≢◌, false, ◌&&◌, List, [], ◌∷◌, eqb, ℕ, ◌+◌, ◌≤◌}
+use Rattle.std.specs.Prelude.{◌≡◌, ◌≢◌, false, List, [], ◌∷◌, ℕ, ◌+◌, ◌≤◌}
 use Rattle.tree.specs.Tree.{one}
 use Rattle.ledger.specs.Ledger.{most_attempts, mark_key}
 use Rattle.ledger.specs.Sequences.{LedgerCall, send_call_case, clear_call_case, is_yes}

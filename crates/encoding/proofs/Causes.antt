@@ -3,34 +3,31 @@
 -- (`numbered_once`). One table of cases, by the operation, of what crate tree says that each answers. Assumes nothing.
 use mathlib.Core.Path.{◌≡◌, refl, ap, sym, ◌∙◌}
 use mathlib.Core.Logic.{◌↔◌, ◌≢◌, ◌⊎◌, inl, inr}
-use mathlib.Core.Bool.{Bool, true, false, not, ◌||◌, ◌&&◌, false≢true}
-use mathlib.Core.Option.{Option, none, some}
+use mathlib.Core.Bool.{Bool, true, false, not, false≢true}
 use lib.Dec.{eqb, ltb}
 use lib.ListN.{length}
-use borrow.Author.Tests.{eqb-true, eqb-false, eq-eqb, ltb-true, ltb-false, not-true, not-false}
+use borrow.Author.Tests.{eqb-true, eqb-false, eq-eqb, ltb-true, ltb-false, not-false}
 use native.Mathlib.Decide.{dec_lt, ℕ_discrete}
 use native.Mathlib.Omega.{arith}
-use Prim.Native.Nat.{ℕ, zero, suc, ◌+◌, ◌≤◌, ◌<◌}
+use Prim.Native.Nat.{ℕ, ◌≤◌, ◌<◌}
 use Rattle.tree.specs.declared.Kind.{Kind}
 use Rattle.tree.specs.declared.Kind.TheVariants.{Blacken, SingleLeft, SingleRight, DoubleLeft, DoubleRight, Lighten, LightenLeft, LightenRight}
 use Rattle.tree.specs.declared.Named.TheVariants.{Known, Unknown}
-use Rattle.tree.specs.declared.Refusal.{Refusal}
 use Rattle.tree.specs.declared.Answer.{Answer}
-use Rattle.tree.specs.declared.Answer.TheVariants.{Done, Refused, Spent}
 use Rattle.tree.specs.Codes.{most_level, kind_number, named, code_of, number_of}
-use Rattle.tree.specs.Tree.{Tree, leaf, node, slot_of, count_in, level, LeafIn}
+use Rattle.tree.specs.Tree.{Tree, slot_of, count_in, level, LeafIn}
 use Rattle.tree.specs.Kinds.{condition_at, at_limit}
-use Rattle.tree.specs.State.{State, Top, empty, full, Sound, Outcome, gives, key_end, keys_of, is_in, count_top, slots_needed, leaf_at, no_inner, search, insert, delete, step}
+use Rattle.tree.specs.State.{State, Top, empty, full, Sound, Outcome, gives, key_end, count_top, leaf_at, no_inner}
 use Rattle.tree.specs.Settle.{trees_after, settle}
 use Rattle.tree.specs.Spans.{next_from, count_span, delete_span}
 use Rattle.tree.proofs.KindNumbers.{named_known, named_number, named_within, not_unknown}
 use Rattle.tree.proofs.Tests.{two_true}
 use Rattle.tree.proofs.Search.{leaf_tested, tested_leaf, leaf_reached}
 use Rattle.tree.proofs.SoundStates.{tree_good}
-use Rattle.tree.proofs.Updated.{SearchSays, found, missing, search_says, InsertSays, present, no_room, added, insert_says, DeleteSays, absent, removed, delete_says, insert_sound}
+use Rattle.tree.proofs.Updated.{SearchSays, found, missing, search_says, InsertSays, present, no_room, added, insert_says, DeleteSays, absent, removed, delete_says}
 use Rattle.tree.proofs.Spans.{NextSays, next, none_above as none-at-or-above, next_says}
 use Rattle.tree.proofs.SpanStates.{span_held}
-use Rattle.tree.proofs.StepState.{four_false, allowed_exactly, StepCause, in_empty, no_inner_case, no_kind, condition_false as step-condition-false, at_limit_case as step-at-limit, StepCase, refused, taken, stepping}
+use Rattle.tree.proofs.StepState.{four_false, allowed_exactly, in_empty, no_inner_case, no_kind, condition_false as step-condition-false, at_limit_case as step-at-limit, StepCase, refused, taken, stepping}
 use Rattle.tree.proofs.Settling.{settle_number, settle_empty, settle_sound_state}
 use Rattle.tree.proofs.Demand3.{BalancedState, SomeAccepted, some_accepted_is, some_accepted, none_accepted, settle_code_0}
 use Rattle.tree.proofs.SettleAnswers.{Ended, ended_done, ended_spent, settle_ended}

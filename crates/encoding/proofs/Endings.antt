@@ -8,7 +8,6 @@ use lib.ListN.{length}
 use borrow.Author.Tests.{ltb-true, ltb-false, lt-ltb, le-ltb}
 use Prim.Native.Nat.{ℕ, ◌*◌, ◌≤◌, ◌<◌}
 use Rattle.tree.specs.declared.Refusal.TheVariants.{PoolLength, RulesBroken, BadCommand, FewAnswers}
-use Rattle.format.specs.declared.Header.{Header}
 use Rattle.format.specs.declared.Audited.{Audited}
 use Rattle.format.specs.declared.Audited.TheVariants.{Length, Broken, Passed}
 use Rattle.format.specs.Words.{length_good}

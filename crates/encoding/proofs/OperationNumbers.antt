@@ -1,6 +1,6 @@
 -- The operations and their numbers: an operation's number names it, no other number does, and any number that is no operation's names
 -- nothing; each is one byte long. By cases on the operation, and else by crate tree's laws of tables. Assumes nothing.
-use mathlib.Core.Path.{◌≡◌, refl, ap, sym, ◌∙◌}
+use mathlib.Core.Path.{◌≡◌, refl, ap}
 use mathlib.Core.Logic.{◌≢◌}
 use mathlib.Core.Option.{Option, none, some}
 use lib.ListN.{get_elem?}

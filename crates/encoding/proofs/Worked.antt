@@ -2,31 +2,26 @@
 -- over spans (vii), in one table, and one proof, which the checker computes. A row is what the definitions give, from batch bytes and pool words, and
 -- what 01 or 02 says. Assumes nothing.
 use mathlib.Core.Path.{◌≡◌, refl}
-use mathlib.Core.Bool.{Bool, true, false, not, ◌&&◌, ◌||◌}
+use mathlib.Core.Bool.{true, false}
 use mathlib.Core.List.{List, [], ◌∷◌, ◌++◌}
 use mathlib.Core.Option.{Option, none, some}
-use lib.Dec.{eqb, leb, ltb}
-use lib.ListN.{length, get_or, set, take, drop, replicate}
-use Prim.Native.Nat.{ℕ, zero, suc, pred, ◌+◌, ◌*◌, ◌-◌, ◌/◌, min, max}
-use Rattle.format.specs.declared.Header.{Header}
-use Rattle.format.specs.declared.Slot.{Slot}
+use lib.Dec.{eqb}
+use lib.ListN.{replicate}
+use Prim.Native.Nat.{ℕ, zero, suc, ◌*◌}
 use Rattle.encoding.specs.declared.Number.{Number}
 use Rattle.encoding.specs.declared.Number.TheVariants.{Read, Wrong}
-use Rattle.encoding.specs.declared.Command.{Command}
-use Rattle.encoding.specs.declared.Reading.{Reading}
-use Rattle.encoding.specs.declared.Reading.TheVariants.{Next, Fault}
 use Rattle.format.proofs.Rows.{pool, Row, row, all_given, all_said}
-use Rattle.format.specs.Words.{header, slot, free_slot, header_words, header_of, slot_at, slots_in, length_good, in_tree, in_chain, in_top, root_of, shown_slot, shown_header, slot_words, slots_from, words_of}
-use Rattle.format.specs.Audit.{Found, is_slot, follow, chain, chain_ends, tree_found, chain_found, slots_of, bare, all, all_from, same, rule_once, free_words, rule_free, children, rule_children, leaf_keys, routed, rule_order, well_weighed, root_weighed, rule_weights, sums_of, root_sums, rule_sums, rule_level, rules, all_true, rules_under, found_weight, tree_of, top_of, state_under, state_of, audited}
+use Rattle.format.specs.Words.{header, slot, free_slot, header_of, slot_at, slots_in, length_good, in_tree, in_chain, in_top, root_of, shown_slot, shown_header, slot_words, slots_from, words_of}
+use Rattle.format.specs.Audit.{is_slot, follow, chain, chain_ends, tree_found, chain_found, slots_of, bare, all, all_from, same, rule_once, free_words, rule_free, children, rule_children, leaf_keys, routed, rule_order, well_weighed, root_weighed, rule_weights, sums_of, root_sums, rule_sums, rule_level, rules, all_true, rules_under, found_weight, tree_of, top_of, state_under, state_of, audited}
 use Rattle.encoding.specs.Numbers.{last_group, below, groups, number}
-use Rattle.encoding.specs.Batch.{last_argument, only_argument, two_arguments, arguments_at, meant_at, operation_at, command_at, Batch, commands, bad_at, after, read_from, read_batch, operation, perform, answers_of, run_all, answer_words, filled, Call, called, refused, batch_read, batch}
+use Rattle.encoding.specs.Batch.{last_argument, only_argument, two_arguments, arguments_at, meant_at, operation_at, command_at, after, read_from, read_batch, operation, perform, answers_of, run_all, answer_words, filled, Call, called, refused, batch_read, batch}
 use Rattle.tree.specs.declared.Kind.{Kind}
 use Rattle.tree.specs.Codes.{kind_number}
-use Rattle.tree.specs.Tree.{Tree, leaf, node, slot_of, is_leaf, size, leaves, keys, red, overweighted, one, count, count_in, level}
+use Rattle.tree.specs.Tree.{slot_of, is_leaf, size, leaves, keys, red, overweighted, one, count, count_in, level}
 use Rattle.tree.specs.Distances.{outside, if_red, for_red, conflicts, red_distance, over_distance, excess_weight, bound}
 use Rattle.tree.specs.Kinds.{left_red, right_red, left_not_red, right_not_red, condition, blackened, single_left, single_right, double_left, double_right, lightened, lighten_left, lighten_right, effect, holds_at, change_at, condition_at, stepped, at_limit}
-use Rattle.tree.specs.Updates.{reach, reached_slot, reached_key, insert_at, new_slot, moved_to, Cut, cut, delete_at}
-use Rattle.tree.specs.State.{State, state, Top, empty, full, keys_of, nodes, upwards, prepared, Outcome, search, insert_first, insert_more, insert, deleted, delete, leaf_at, no_inner, step_kind, step_named, step, report, figures, level_top}
+use Rattle.tree.specs.Updates.{reach, reached_slot, reached_key, insert_at, new_slot, moved_to, cut, delete_at}
+use Rattle.tree.specs.State.{Top, empty, full, keys_of, nodes, upwards, prepared, search, insert_first, insert_more, insert, deleted, delete, leaf_at, no_inner, step_kind, step_named, step, report, figures, level_top}
 use Rattle.tree.specs.Settle.{allowed, lowest_kind, lowest_step, next_tree, trees_after, last_of, settled, settle}
 use Rattle.tree.specs.Spans.{first_from, key_or_absent, next_key, next_from, span_of, count_span, delete_each, delete_span}
 

@@ -1,6 +1,6 @@
 -- Document 01, The batch: commands and their reading (RULES 7), a call's refusals in order, and what a call leaves in the pool and the
 -- answers (RULES 8, 9); 02 (vii)'s commands among them (RULES 18).
-use Rattle.std.specs.Prelude.{true, false, not, List, [], ◌∷◌, ◌++◌, eqb, leb, ltb, length, drop, ℕ, zero, suc, ◌+◌, ◌*◌}
+use Rattle.std.specs.Prelude.{true, false, List, [], ◌∷◌, ◌++◌, eqb, leb, ltb, length, drop, ℕ, zero, suc, ◌*◌}
 use Rattle.encoding.specs.declared.Number.{Number}
 use Rattle.encoding.specs.declared.Number.TheVariants.{Read, Wrong}
 use Rattle.encoding.specs.declared.Operation.{Operation}

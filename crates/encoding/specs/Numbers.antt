@@ -1,5 +1,5 @@
 -- Document 01, The batch (RULES 7): numbers in seven-bit groups.
-use Rattle.std.specs.Prelude.{◌≡◌, Bool, true, false, not, ◌&&◌, List, [], ◌∷◌, eqb, leb, ltb, length, get_or, ℕ, zero, suc, ◌+◌, ◌*◌, ◌-◌, ◌<◌}
+use Rattle.std.specs.Prelude.{Bool, true, false, not, ◌&&◌, List, eqb, leb, ltb, length, get_or, ℕ, zero, suc, ◌+◌, ◌*◌, ◌-◌, ◌<◌}
 use Rattle.encoding.specs.declared.Number.{Number}
 use Rattle.encoding.specs.declared.Number.TheVariants.{Read, Wrong}
 

@@ -1,5 +1,5 @@
 -- Document 01, The pool (RULES 1): where header and slots stand in the words, and the words that a State shows.
-use Rattle.std.specs.Prelude.{◌≡◌, Bool, true, false, ◌&&◌, List, [], ◌∷◌, ◌++◌, eqb, leb, length, get_or, set, ℕ, zero, suc, ◌+◌, ◌*◌, ◌-◌, ◌/◌, min}
+use Rattle.std.specs.Prelude.{Bool, true, false, ◌&&◌, List, [], ◌∷◌, ◌++◌, eqb, leb, length, get_or, set, ℕ, zero, suc, ◌+◌, ◌*◌, ◌-◌, ◌/◌, min}
 use Rattle.std.proofs.Math.Option.{Option, none, some}
 use Rattle.format.specs.declared.Header.{Header}
 use Rattle.format.specs.declared.Slot.{Slot}
@@ -7,7 +7,7 @@ use Rattle.format.specs.declared.Part.{Part}
 use Rattle.format.specs.declared.Part.TheVariants.{Key, Left, Right, Weight}
 use Rattle.tree.specs.Codes.{most_slots}
 use Rattle.tree.specs.Tree.{Tree, leaf, node, slot_of}
-use Rattle.tree.specs.State.{State, state, Top, empty, full, nodes, level_top}
+use Rattle.tree.specs.State.{State, Top, empty, full, nodes, level_top}
 
 -- RULES 1.2: "4 header words, then 4 words for each of C slots [..] Slots are numbered from 1": the words of slot s begin here.
 abbrev pub word_of : ℕ → ℕ

@@ -1,6 +1,6 @@
 -- Document 01: "Input 02 0A 02 14 01 0A prints exactly three lines: `0 1`, `0 3`, `0 2`." It is the first row of a table of bytes read and
 -- bytes printed, with one proof: by `printed_shown` no pool's words are needed, and the rest the checker computes. Assumes nothing.
-use mathlib.Core.Path.{◌≡◌, refl, ap, ◌∙◌}
+use mathlib.Core.Path.{◌≡◌, refl, ◌∙◌}
 use mathlib.Core.List.{List, [], ◌∷◌}
 use Prim.Native.Nat.{ℕ}
 use Rattle.format.proofs.Rows.{Row, row, all_said}

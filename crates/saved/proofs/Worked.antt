@@ -4,7 +4,7 @@ use mathlib.Core.Path.{◌≡◌, refl}
 use mathlib.Core.Bool.{Bool, true, false}
 use mathlib.Core.List.{List, [], ◌∷◌}
 use mathlib.Core.Option.{Option, none, some}
-use Prim.Native.Nat.{ℕ, ◌-◌}
+use Prim.Native.Nat.{ℕ}
 use Rattle.tree.specs.Tree.{leaf, node, size, level}
 use Rattle.tree.specs.State.{State, state, Top, full, nodes, upwards, prepared}
 use Rattle.encoding.specs.Numbers.{last_group, below, groups, number}

@@ -2,7 +2,7 @@
 use mathlib.Core.Path.{◌≡◌}
 use mathlib.Core.Bool.{true}
 use borrow.Author.Tests.{eq-eqb}
-use Prim.Native.Nat.{ℕ, suc}
+use Prim.Native.Nat.{ℕ}
 use Rattle.tree.specs.declared.Kind.TheVariants.{Blacken}
 use Rattle.tree.specs.Codes.{most_level}
 use Rattle.tree.specs.Tree.{Tree, slot_of, level}

@@ -3,10 +3,9 @@
 -- S - 2B - 1, which may be positive." Shown of every such v (`rotated_conflicts`, `rotated_distance`), and of one whole tree whose
 -- red-red distance rises by 2 (`lemma_3_fails`): it computes. Assumes nothing.
 use mathlib.Core.Path.{◌≡◌, refl}
-use mathlib.Core.Bool.{Bool, true, false, not, ◌&&◌, ◌||◌}
-use lib.Dec.{eqb}
+use mathlib.Core.Bool.{true, false}
 use native.Mathlib.Omega.{arith}
-use Prim.Native.Nat.{ℕ, zero, suc, pred, ◌+◌, ◌*◌, ◌-◌, ◌≤◌}
+use Prim.Native.Nat.{ℕ, suc, ◌+◌, ◌*◌, ◌≤◌}
 use Rattle.tree.specs.declared.Kind.TheVariants.{SingleLeft}
 use Rattle.tree.specs.Tree.{Tree, leaf, node, size, red, level, Chromatic}
 use Rattle.tree.specs.Kinds.{left_red, condition, single_left, effect, holds_at, change_at, condition_at, stepped}

@@ -1,8 +1,7 @@
 -- One step of a search: at a router it goes left when the key is at most the router, else right (`reach_left`, `reach_right`). Assumes nothing.
 use mathlib.Core.Path.{◌≡◌}
-use Prim.Native.Nat.{ℕ, suc, ◌≤◌, ◌<◌}
+use Prim.Native.Nat.{ℕ, ◌≤◌, ◌<◌}
 use borrow.Author.Tests.{le-leb, lt-leb}
-use native.Mathlib.Omega.{arith}
 use Rattle.tree.specs.Tree.{Tree, node}
 use Rattle.tree.specs.Updates.{reach}
 

@@ -1,5 +1,5 @@
 -- Code 3, with its number, as the definition gives it. Assumes nothing.
-use Rattle.std.proofs.Common.{◌≡◌, sym}
+use Rattle.std.proofs.Common.{sym}
 use Rattle.tree.specs.declared.Refusal.TheVariants.{BadCommand}
 use Rattle.batch.proofs.CallTests.{call_refuses, finds_bad}
 use Rattle.batch.proofs.batch.Goals as goal

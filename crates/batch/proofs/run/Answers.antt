@@ -1,5 +1,5 @@
 -- After the last command the call leaves what the definition says. Assumes nothing.
-use Rattle.std.proofs.Common.{◌≡◌, ◌∙◌}
+use Rattle.std.proofs.Common.{◌∙◌}
 use Rattle.batch.proofs.Turns.{turn_ends}
 use Rattle.batch.proofs.run.Goals as goal
 

@@ -1,11 +1,10 @@
 -- `run` meets its contract. The loop's invariant, `Turn`: the commands that are left, run on the pool and the answers of now under the
 -- header of now, leave what the call leaves. The measure is how many answer words 256 commands may still fill. Assumes nothing.
-use mathlib.Core.Path.{◌≡◌, refl, sym, ◌∙◌}
+use mathlib.Core.Path.{◌≡◌}
 use Prim.Native.Nat.{◌-◌, ◌*◌}
-use native.Mathlib.Omega.{arith}
 use lib.ListN.{length}
 use Rattle.encoding.specs.Batch.{most_commands, batch}
-use Rattle.batch.proofs.Turns.{Turn, turn_starts, turn_fault, turn_place, turn_good, turn_ends}
+use Rattle.batch.proofs.Turns.{Turn}
 use Rattle.batch.proofs.run.Given as goal
 
 abbrev pub invariant-loop-at : goal.invariant-loop-at

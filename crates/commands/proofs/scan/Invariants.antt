@@ -1,9 +1,8 @@
 -- `commands::scan` meets its contract. The loop's invariant, `Scanning`: the commands counted so far, and what is found from place
 -- `at` on, make what is found in the whole. The measure is how many commands may still come. Assumes nothing.
-use mathlib.Core.Path.{sym, ◌∙◌}
 use Prim.Native.Nat.{◌-◌}
 use Rattle.encoding.specs.Batch.{most_commands}
-use Rattle.commands.proofs.Scanning.{Scanning, scan_starts, scan_ends, scan_over, scan_fault, scan_good}
+use Rattle.commands.proofs.Scanning.{Scanning}
 use Rattle.commands.proofs.scan.Given as goal
 
 abbrev pub invariant-loop-at : goal.invariant-loop-at

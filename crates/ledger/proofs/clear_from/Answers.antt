@@ -1,7 +1,6 @@
 -- Where no key is found, or one beyond the notice, all has gone; else the key goes, and the loop goes on above it. Assumes nothing.
-use Rattle.std.proofs.Common.{◌≡◌, ◌+◌, ap, sym, ◌∙◌, arith}
+use Rattle.std.proofs.Common.{ap, sym, ◌∙◌, arith}
 use Rattle.set.specs.Operations.{code_of, number_of}
-use Rattle.ledger.specs.Ledger.{Cleared}
 use Rattle.ledger.proofs.Cleared.{at_says, turn_ends, turn_none, turn_beyond, turn_later, turn_on}
 use Rattle.ledger.proofs.clear_from.Goals as goal
 

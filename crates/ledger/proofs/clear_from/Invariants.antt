@@ -1,12 +1,10 @@
 -- `clear_from` meets its contract. The loop's invariant, `Turn`: what has gone and what is yet to go are all that goes. The measure is how many
 -- of the notice's keys are left, from `next` on. Assumes nothing.
-use mathlib.Core.Path.{◌≡◌, refl, ap, sym, ◌∙◌}
-use native.Mathlib.Omega.{arith}
+use mathlib.Core.Path.{◌≡◌}
 use Prim.Native.Nat.{◌+◌, ◌-◌}
 use lib.ListN.{length}
-use Rattle.set.specs.Operations.{code_of, number_of, next_answer}
 use Rattle.ledger.specs.Ledger.{notice_keys, cleared_from}
-use Rattle.ledger.proofs.Cleared.{at_says, Turn, turn_starts, turn_ends, turn_none, turn_beyond, turn_later, turn_on}
+use Rattle.ledger.proofs.Cleared.{Turn}
 use Rattle.ledger.proofs.clear_from.Given as goal
 
 abbrev pub invariant-loop-next : goal.invariant-loop-next

@@ -1,11 +1,8 @@
 -- `lowest_unmarked` meets its contract. The loop's invariant: the lowest from here is the lowest from attempt 1 on. The measure is how many
 -- attempts are left up to the limit. Assumes nothing.
-use mathlib.Core.Path.{◌≡◌, ap, sym, ◌∙◌}
-use native.Mathlib.Omega.{arith}
+use mathlib.Core.Path.{◌≡◌}
 use Prim.Native.Nat.{◌+◌, ◌-◌, ◌≤◌}
-use Rattle.set.specs.Operations.{code_of}
 use Rattle.ledger.specs.Ledger.{lowest_from}
-use Rattle.ledger.proofs.Asking.{lowest_here, lowest_on, lowest_none, search_misses, search_finds}
 use Rattle.ledger.proofs.lowest_unmarked.Given as goal
 
 abbrev pub invariant-loop-attempt : goal.invariant-loop-attempt

@@ -1,5 +1,5 @@
 -- There is room for the next line, and with it the lines of one answer more are put. Assumes nothing.
-use Rattle.std.proofs.Common.{◌≡◌, ◌≤◌, ◌+◌, arith}
+use Rattle.std.proofs.Common.{arith}
 use Rattle.lines.proofs.Stores.{putting_length, putting_place, putting_more}
 use Rattle.lines.proofs.put_lines.Goals as goal
 

@@ -1,9 +1,7 @@
 -- `lines::put_lines` meets its contract. The loop's invariant, `Putting`: the lines of the answers passed are put, and the place is
 -- after them. The measure is what is left of the count. Assumes nothing.
-use mathlib.Core.Path.{◌≡◌}
 use Prim.Native.Nat.{◌≤◌, ◌-◌}
-use native.Mathlib.Omega.{arith}
-use Rattle.lines.proofs.Stores.{Putting, putting_starts, putting_length, putting_place, putting_more}
+use Rattle.lines.proofs.Stores.{Putting}
 use Rattle.lines.proofs.put_lines.Given as goal
 
 abbrev pub invariant-loop-i : goal.invariant-loop-i

@@ -1,5 +1,5 @@
 -- A turn of the loop: another group follows. Assumes nothing.
-use Rattle.std.proofs.Common.{◌≡◌, arith}
+use Rattle.std.proofs.Common.{arith}
 use Rattle.numbers.proofs.Ahead.{most, ahead}
 use Rattle.numbers.proofs.further.Goals as goal
 

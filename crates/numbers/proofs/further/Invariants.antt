@@ -1,13 +1,8 @@
 -- `numbers::further` meets its contract. The loop's invariant, `Ahead`: the number is what stands from place i on, above the
 -- groups that were read. The measure is how many groups may follow. After the loop it is the fifth group. Assumes nothing.
-use mathlib.Core.Path.{refl}
 use mathlib.Core.Bool.{false}
-use Prim.Native.Nat.{◌+◌, ◌*◌, ◌-◌, ◌≤◌}
-use native.Mathlib.Omega.{arith}
-use lib.ListN.{get_or}
 use Rattle.encoding.specs.Numbers.{groups, below}
-use Rattle.numbers.proofs.Groups.{ended, large, padded, read_last}
-use Rattle.numbers.proofs.Ahead.{Ahead, answer, most, fits, ahead, below_above}
+use Rattle.numbers.proofs.Ahead.{Ahead}
 use Rattle.numbers.proofs.further.Given as goal
 
 abbrev pub invariant-loop-more : goal.invariant-loop-more

@@ -1,11 +1,10 @@
 -- `numbers::put_some` meets its contract. The loop's invariant, `Putting`: with what is left of the number written from place i on, all
 -- is written. The measure is what is left of the room. Assumes nothing.
-use Prim.Native.Nat.{◌+◌, ◌-◌, ◌%◌}
-use native.Mathlib.Omega.{arith}
-use lib.ListN.{length, length-set}
+use Prim.Native.Nat.{◌-◌}
+use lib.ListN.{length}
 use lib.Seq.{sets}
 use Rattle.numbers.specs.Shortest.{bytes_of}
-use Rattle.numbers.proofs.Putting.{Putting, put_first, put_more, put_last, put_ended}
+use Rattle.numbers.proofs.Putting.{Putting}
 use Rattle.numbers.proofs.put_some.Given as goal
 
 abbrev pub invariant-loop-i : goal.invariant-loop-i

@@ -1,8 +1,7 @@
 -- `numbers::put_whole` meets its contract. The loop's invariant, `Placing`: with what is left of the number written after the n bytes, all is
 -- written. The measure is how many bytes may follow. Assumes nothing.
 use Prim.Native.Nat.{◌-◌}
-use native.Mathlib.Omega.{arith}
-use Rattle.numbers.proofs.Putting.{Placing, place_first, place_last, place_fifth, place_more}
+use Rattle.numbers.proofs.Putting.{Placing}
 use Rattle.numbers.proofs.put_whole.Given as goal
 
 abbrev pub invariant-loop-n : goal.invariant-loop-n

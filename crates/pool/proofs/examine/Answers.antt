@@ -1,6 +1,6 @@
 -- `pool::examine` meets its contract: each of its answers is that of the audit as it is walked, by a law of Tours.antt, and that is the
 -- definition's (`audit_tour_lem` of Audits.antt). Assumes nothing.
-use Rattle.std.proofs.Common.{◌≡◌, ◌≤◌, ◌<◌, ◌-◌, ◌^◌, ℕ, List, true, false, ap, sym, ◌∙◌, arith, get_or}
+use Rattle.std.proofs.Common.{◌≡◌, ◌≤◌, ◌<◌, ◌-◌, ◌^◌, ℕ, List, true, ap, sym, ◌∙◌, arith, get_or}
 use Rattle.format.specs.Words.{header_of, slots_in, length_good}
 use Rattle.format.specs.declared.Audited.{Audited}
 use Rattle.format.specs.Audit.{audited}

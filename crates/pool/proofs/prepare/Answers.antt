@@ -1,5 +1,5 @@
 -- `pool::prepare` meets its contract: the loop chains the slots, and the last one ends the chain. Assumes nothing.
-use Rattle.std.proofs.Common.{◌≡◌, ◌+◌, sym, arith}
+use Rattle.std.proofs.Common.{sym}
 use Rattle.format.proofs.Shown.{good_length}
 use Rattle.pool.proofs.Prepares.{chaining_first, chaining_more, prepare_refused, prepare_done}
 use Rattle.pool.proofs.prepare.Goals as goal

@@ -1,13 +1,7 @@
 -- `pool::prepare` meets its contract. The invariant: the header is the empty State's, and the slots from 1 to below s are chained,
 -- each to the next. The measure is the number of slots up to the last. Assumes nothing.
-use mathlib.Core.Bool.{true, false}
-use mathlib.Core.Path.{◌≡◌, sym, ◌∙◌}
 use Prim.Native.Nat.{◌-◌}
-use native.Mathlib.Omega.{arith}
-use borrow.Author.Tests.{not-true, not-false}
-use Rattle.format.proofs.Shown.{good_length}
-use Rattle.format.specs.Words.{length_good}
-use Rattle.pool.proofs.Prepares.{Chaining, chaining_first, chaining_more, prepare_refused, prepare_done}
+use Rattle.pool.proofs.Prepares.{Chaining}
 use Rattle.pool.proofs.prepare.Given as goal
 
 abbrev pub invariant-loop-s : goal.invariant-loop-s

@@ -1,10 +1,7 @@
 -- `pool::walk_chain` meets its contract. The invariant: the answer from here on, with as many slots as are left, is the answer of the
 -- whole walk. The measure is the number of slots left. Assumes nothing.
-use mathlib.Core.Path.{◌≡◌, ap, sym, ◌∙◌}
-use native.Mathlib.Omega.{arith}
-use borrow.Author.Tests.{not-true, not-false, eq-eqb, ne_eqb}
+use mathlib.Core.Path.{◌≡◌}
 use Rattle.pool.specs.Visits.{chain_tour}
-use Rattle.pool.proofs.Tours.{free_decided, turn_outside, turn_taken, turn_next, turn_end}
 use Rattle.pool.proofs.walk_chain.Given as goal
 
 abbrev pub invariant-loop-left : goal.invariant-loop-left

@@ -1,7 +1,6 @@
 -- `descend` meets its contract. The loop's invariant: the way from here is the way from the root (`descend_ends` and `descend_on`
 -- of Ways.antt are its turns). The measure is `left`, the slots to go, which falls by one with each turn. Assumes nothing.
-use Rattle.std.proofs.Common.{◌≡◌, sym, ◌∙◌, arith, rules}
-use Rattle.updates.proofs.Ways.{descend_ends, descend_on}
+use Rattle.std.proofs.Common.{◌≡◌}
 use Rattle.updates.specs.Updating.{descend, way_to}
 use Rattle.updates.proofs.descend.Given as goal
 
