@@ -64,7 +64,7 @@ no_other_crate() { # of the first one's
 }
 
 archive_folder() {
-    case $machine in x86_64) looks=$root/target/staticlib ;; *) looks=$root/target/staticlib-aarch64 ;; esac
+    looks=$root/target/staticlib
     [ "$("$root/host/archive")" = "$looks" ] && [ -f "$looks/lib$lib.a" ] || return 1
     for words in now '--help now'; do
         # shellcheck disable=SC2086

@@ -7,6 +7,10 @@ program_against_library() { # COMMAND...: cargo, so far as 'run'
         not_run "the program against the library" "there is no program here"
         return
     fi
+    if [ "$which" = cousin ] && ! command -v rt >/dev/null && [ ! -x "$root/crates/marks/out/marks" ]; then
+        not_run "the program against the library" "the program is not built, and there is no rt"
+        return
+    fi
     if ! "$@" --quiet --example marks </dev/null >"$log" 2>&1 || ! "$root/marks" </dev/null >>"$log" 2>&1; then
         cat "$log"
         count "the program builds" 0 1
@@ -87,7 +91,8 @@ program_alone() {
     one "./marks without rt runs what is built" "$log" alone_no_rt
     one "./marks without rt says that the program is older" "$log" alone_no_rt_older
     one "./marks without rt or sources, and nothing built, says what is missing" "$log" alone_nothing
-    one "./marks on aarch64 needs rt for the emulator" "$log" alone_aarch64
+    one "./marks takes the program that rt ci built" "$log" alone_of_ci
+    one "./marks on another processor says that the toolchain is for x86-64" "$log" alone_machine
     one "./marks --help and -h" "$log" alone_help
     one "./marks with another argument" "$log" alone_argument
     one "./marks through links, from elsewhere" "$log" alone_links
@@ -111,7 +116,7 @@ program_alone() {
     else
         not_run "./marks in a checkout that cannot be written" "root needs setpriv to be another user"
     fi
-    if [ -x "$root/target/bin/marks" ]; then
+    if [ -x "$root/crates/marks/out/marks" ]; then
         one "the example of ./marks --help" "$log" alone_example
         one "the program on a closed standard output" "$log" closed_output
     else
@@ -135,26 +140,26 @@ make_tools() {
     # An rt that builds as ALONE_RT says, and counts its calls.
     cat >"$alone/rt/rt" <<'END'
 #!/bin/sh
-if [ "$1" = doc ]; then echo "$ALONE/kit/docs/START-HERE.md"; exit; fi
-[ "$*" = 'check marks' ] && [ -f crates.txt ] || { echo "rt: not what a build is: $*"; exit 2; }
+[ "$*" = run ] && [ -f ../../crates.txt ] && [ -f src/main.rt ] || { echo "rt: not what a build is: $*"; exit 2; }
 echo "$$" >>"$ALONE/calls"
 cp "$ALONE/said" "$ALONE/said.first"
-make() { mkdir -p target/bin target/stamp; printf '#!/bin/sh\ncat >/dev/null\necho built\n' >target/bin/marks; chmod +x target/bin/marks; : >target/stamp/marks; }
+make() { mkdir -p out; printf '#!/bin/sh\ncat >/dev/null\necho built\n' >out/marks; chmod +x out/marks; : >out/marks.stamp; }
+proved() { printf '%s\n' "fn $1::f: proved" "crate $1: modules loaded=0 checked=1" 'logic=proved functions=1 sum=0'; }
 case $ALONE_RT in
-good) echo 'rt: below proved (1 s)'; make; echo 'rt: marks proved (1 s)' ;;
+good) proved below; make; proved marks; out/marks ;;
 waits)
-    echo 'rt: below proved (1 s)'
+    proved below
     n=0
     until [ -e "$ALONE/go" ]; do n=$((n + 1)); [ $n -le 50 ] || { echo 'nothing was said meanwhile'; exit 1; }; sleep 0.1; done
     make
-    echo 'rt: marks proved (1 s)'
+    proved marks
     ;;
-unchanged) echo 'rt: marks proved (unchanged since it was last proved)' ;;
-stamped) [ -f target/stamp/marks ] || make ;;
-edited) sleep 0.1; touch crates/below/src/lib.rt; sleep 0.1; make ;;
+unchanged) echo 'rt: nothing has changed since the last proved build, by out/marks.stamp, so nothing is checked now' ;;
+stamped) [ -f out/marks.stamp ] || make ;;
+edited) sleep 0.1; touch ../below/src/lib.rt; sleep 0.1; make ;;
 slow) sleep 0.5; make ;;
-half) make; rm target/stamp/marks; echo 'rt: marks proved, and its run FAILED (0 s)'; exit 1 ;;
-fails) sleep 0.3; echo "the log of $$"; sleep 0.3; echo 'rt: below NOT PROVED (exit 1, 0 s)'; exit 1 ;;
+half) make; rm out/marks.stamp; echo 'the link FAILED'; exit 1 ;;
+fails) sleep 0.3; echo "the log of $$"; sleep 0.3; echo 'fn below::f: not proved'; exit 1 ;;
 esac
 END
     for spy in rt mkdir mktemp touch rm cp; do printf '#!/bin/sh\necho "%s $*" >>"$ALONE/spied"\nexit 1\n' "$spy" >"$alone/spies/$spy"; done
@@ -167,19 +172,20 @@ fresh() {
     : >"$alone/calls"
     : >"$alone/spied"
     chmod 666 "$alone/calls" "$alone/spied"
-    mkdir -p "$repo/crates/marks/src" "$repo/crates/marks/must-fail" "$repo/crates/below/src" "$repo/crates/other/src" "$repo/target/bin" "$repo/target/stamp"
+    mkdir -p "$repo/crates/marks/src" "$repo/crates/marks/must-fail" "$repo/crates/below/src" "$repo/crates/below/specs" "$repo/crates/other/src" "$repo/crates/marks/out"
+    built=$repo/crates/marks/out
     cp "$root/marks" "$repo/marks"
-    printf '# two crates\nbelow:\nother: below\nmarks: below io libc\n' >"$repo/crates.txt"
+    printf '# two crates\nbelow:\nother: below\nmarks: below anyhow\n' >"$repo/crates.txt"
     : >"$repo/crates/marks/src/main.rt"
     : >"$repo/crates/marks/must-fail/one.edit"
     : >"$repo/crates/below/src/lib.rt"
     : >"$repo/crates/other/src/lib.rt"
-    : >"$repo/target/stamp/marks"
-    printf '#!/bin/sh\ncat >/dev/null\necho stored\n' >"$repo/target/bin/marks"
+    : >"$built/marks.stamp"
+    printf '#!/bin/sh\ncat >/dev/null\necho stored\n' >"$built/marks"
     chmod -R a+rX "$repo"
-    chmod +x "$repo/marks" "$repo/target/bin/marks"
+    chmod +x "$repo/marks" "$built/marks"
     find "$repo" -depth -exec touch -t 201901010000 {} +
-    touch -t 201906010000 "$repo/target/bin/marks"
+    touch -t 201906010000 "$built/marks"
 }
 alone_run() { # PATH RT COMMAND...: the status to $status, what is written to out and said
     way=$1 kind=$2 status=0
@@ -199,12 +205,12 @@ newer_source() { touch "$repo/crates/below/src/lib.rt"; }
 
 alone_builds() {
     fresh
-    rm -rf "$repo/target"
-    { n=0; until grep -qs '^marks: 1 of 2 crates proved' "$alone/said"; do n=$((n + 1)); [ $n -le 50 ] || break; sleep 0.1; done; [ $n -gt 50 ] || : >"$alone/go"; } &
+    rm -rf "$built"
+    { n=0; until grep -qs '^marks: 1 of at most 2 crates proved, below the last' "$alone/said"; do n=$((n + 1)); [ $n -le 50 ] || break; sleep 0.1; done; [ $n -gt 50 ] || : >"$alone/go"; } &
     alone_run "$with" waits "$repo/marks"
     wait $!
-    expect 0 built && said '2 of 2 crates proved' && calls 1 && grep -q '^marks: building and proving .* minutes' "$alone/said.first" &&
-        [ "$(grep -vc '^marks: ' "$alone/said")" = 0 ] && [ "$(echo "$repo"/target/*)" = "$repo/target/bin $repo/target/stamp" ]
+    expect 0 built && said '2 of at most 2 crates proved, marks the last' && calls 1 && grep -q '^marks: building and proving .* minutes' "$alone/said.first" &&
+        [ "$(grep -vc '^marks: ' "$alone/said")" = 0 ] && [ "$(echo "$built"/*)" = "$built/marks $built/marks.stamp" ] && [ ! -e "$repo/target" ]
 }
 alone_quiet() {
     fresh
@@ -232,13 +238,19 @@ alone_sources() {
     touch "$repo/crates/other/src/lib.rt" "$repo/crates/marks/must-fail/one.edit"
     alone_run "$with" good "$repo/marks"
     expect 0 stored && calls 0 || return 1
+    mkdir -p "$repo/crates/below/out" "$repo/crates/marks/out" && : >"$repo/crates/below/out/work"
+    alone_run "$with" good "$repo/marks"
+    expect 0 stored && calls 0 || return 1
     mv "$repo/crates/below/src/lib.rt" "$repo/crates/below/src/renamed.rt"
     alone_run "$with" good "$repo/marks"
-    expect 0 built && calls 1
+    expect 0 built && calls 1 || return 1
+    mv "$repo/crates/below/src" "$repo/crates/below/source"
+    alone_run "$with" good "$repo/marks"
+    expect 0 built && calls 2
 }
 alone_removed() {
     fresh
-    rm "$repo/target/bin/marks"
+    rm "$built/marks"
     alone_run "$with" stamped "$repo/marks"
     expect 0 built
 }
@@ -255,29 +267,41 @@ alone_no_rt_older() {
 }
 alone_nothing() {
     fresh
-    rm -rf "$repo/target"
+    rm -rf "$built"
     alone_run "$without" - "$repo/marks"
-    expect 2 '' && said 'not built' && said 'Install the Rattle toolchain' && [ ! -e "$repo/target" ] || return 1
+    expect 2 '' && said 'not built' && said 'Install the Rattle toolchain' && [ ! -e "$built" ] || return 1
     rm "$repo/crates.txt"
     alone_run "$with" good "$repo/marks"
-    expect 2 '' && said 'not built' && said 'no crates.txt' && calls 0 && [ ! -e "$repo/target" ]
+    expect 2 '' && said 'not built' && said 'no crates.txt' && calls 0 && [ ! -e "$built" ]
 }
-alone_aarch64() {
+# What rt ci leaves has no stamp: Rattle's own compiler has built it once more behind. Without that it was broken off.
+alone_of_ci() {
     fresh
-    alone_run "$without" - env ALONE_MACHINE=aarch64 "$repo/marks"
-    expect 2 '' && said "'rt' is not on the PATH" && said emulator || return 1
-    tools=$alone/kit/on/aarch64/toolchain
-    mkdir -p "$tools/bin"
-    printf '#!/bin/sh\nprintf "<%%s>" "$@"\n' >"$tools/bin/qemu-x86_64"
-    chmod +x "$tools/bin/qemu-x86_64"
-    alone_run "$with" good env ALONE_MACHINE=aarch64 "$repo/marks"
-    expect 0 "<$tools/lib/ld-linux-x86-64.so.2><--library-path><$tools/lib><$repo/target/bin/marks>" && [ ! -s "$alone/said" ] && calls 0 || return 1
-    alone_run "$with" good env ALONE_MACHINE=riscv64 "$repo/marks"
-    expect 2 '' && said riscv64
+    rm "$built/marks.stamp"
+    touch "$built/marks.by-rattle"
+    touch -r "$built/marks" "$built/marks.by-rattle"
+    alone_run "$with" good "$repo/marks"
+    expect 0 stored && [ ! -s "$alone/said" ] && calls 0 || return 1
+    touch -t 201905010000 "$built/marks.by-rattle"
+    alone_run "$without" - "$repo/marks"
+    expect 0 stored && said 'broken off' || return 1
+    alone_run "$with" good "$repo/marks"
+    expect 0 built && calls 1 || return 1
+    fresh
+    rm "$built/marks.stamp"
+    alone_run "$with" good "$repo/marks"
+    expect 0 built && said 'building and proving' && calls 1
+}
+alone_machine() {
+    for other in aarch64 riscv64; do
+        fresh
+        alone_run "$with" good env ALONE_MACHINE=$other "$repo/marks"
+        expect 2 '' && said x86-64 && said "this machine is $other" && calls 0 || return 1
+    done
 }
 alone_help() {
     fresh
-    rm -rf "$repo/target"
+    rm -rf "$built"
     for word in -h --help; do
         alone_run "$without" - "$repo/marks" "$word"
         [ "$status" = 0 ] && [ ! -s "$alone/said" ] || return 1
@@ -331,28 +355,28 @@ alone_read_only() {
     alone_run "$with" good as_other "$repo/marks"
     expect 0 stored && said 'older than its sources' && said 'cannot be written' && calls 0 || return 1
     chmod u+w "$repo"
-    chmod -R u+w "$repo/target"
-    rm -rf "$repo/target"
-    chmod a-w "$repo"
+    chmod -R u+w "$repo/crates/marks"
+    rm -rf "$built"
+    chmod -R a-w "$repo"
     alone_run "$with" good as_other "$repo/marks"
     expect 2 '' && said 'not built' && said 'cannot be written' && calls 0
 }
 alone_fails() {
     fresh
     newer_source
-    echo 'a stale log' >"$repo/target/marks.log"
+    echo 'a stale log' >"$built/marks.log"
     alone_run "$with" fails "$repo/marks"
-    expect 2 '' && said "the log of $(cat "$alone/calls")" && said 'rt: below NOT PROVED' && ! said stale >/dev/null &&
-        tail -n 1 "$alone/said" | grep -q "^marks: the program is not built: 'rt check marks' failed with status 1" &&
-        [ "$(echo "$repo"/target/*)" = "$repo/target/bin $repo/target/marks.log $repo/target/stamp" ]
+    expect 2 '' && said "the log of $(cat "$alone/calls")" && said 'below::f: not proved' && ! said stale >/dev/null &&
+        tail -n 1 "$alone/said" | grep -q "^marks: the program is not built: 'rt run' failed with status 1" &&
+        [ "$(echo "$built"/*)" = "$built/marks $built/marks.log $built/marks.stamp" ]
 }
 alone_half() {
     fresh
     newer_source
     for turn in 1 2; do
         alone_run "$with" half "$repo/marks"
-        expect 2 '' && said 'run FAILED' && calls "$turn" || return 1
-        : >"$repo/target/stamp/marks.kept"
+        expect 2 '' && said 'the link FAILED' && calls "$turn" || return 1
+        : >"$built/marks.kept"
     done
     alone_run "$without" - "$repo/marks"
     expect 0 built && said 'build that failed'
@@ -369,7 +393,7 @@ alone_two_logs() {
     wait $!
     cat "$alone/said.1" "$alone/said.2"
     calls 2 && for turn in 1 2; do
-        [ "$(cat "$alone/status.$turn")" = 2 ] && [ "$(grep -c '^the log of' "$alone/said.$turn")" = 1 ] && [ "$(grep -c 'NOT PROVED' "$alone/said.$turn")" = 1 ] || return 1
+        [ "$(cat "$alone/status.$turn")" = 2 ] && [ "$(grep -c '^the log of' "$alone/said.$turn")" = 1 ] && [ "$(grep -c 'not proved' "$alone/said.$turn")" = 1 ] || return 1
     done
     [ "$(grep '^the log of' "$alone/said.1")" != "$(grep '^the log of' "$alone/said.2")" ]
 }
@@ -380,7 +404,7 @@ alone_two() { # TURN RT PATH
 }
 alone_one_build() {
     fresh
-    rm -rf "$repo/target"
+    rm -rf "$built"
     (alone_two 1 slow "$with") &
     alone_two 2 slow "$with"
     wait $!
@@ -390,7 +414,7 @@ alone_one_build() {
 }
 alone_not_run() {
     fresh
-    printf '#!%s/nothing\n' "$alone" >"$repo/target/bin/marks"
+    printf '#!%s/nothing\n' "$alone" >"$built/marks"
     alone_run "$with" good "$repo/marks"
     expect 2 '' && said 'cannot be run'
 }
