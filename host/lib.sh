@@ -9,7 +9,6 @@
 
 say() { printf '%s: %s\n' "$me" "$*"; }
 die() { printf '%s: error: %s\n' "$me" "$*" >&2; exit 2; }
-fail() { why=$*; return 1; }
 
 lib=chromatic
 export RUST_BACKTRACE=0
