@@ -57,8 +57,9 @@ prove_and_build() {
 }
 # rt leaves the archive in the crate's out/, which a later `rt ci` empties; the crate's build script looks in target/. One that has not
 # changed keeps its time there, so that cargo builds nothing anew.
+# It is compiled for any x86-64: by itself rt would take the extensions of x86-64-v2, and a static library does not look whether they are there.
 build_archive() {
-    (cd "$root/crates/$lib" && rt lib) </dev/null >"$target/rt.log" 2>&1 || { cat "$target/rt.log" >&2; die "rt lib failed in crates/$lib (above)"; }
+    (cd "$root/crates/$lib" && rt lib --cpu x86-64) </dev/null >"$target/rt.log" 2>&1 || { cat "$target/rt.log" >&2; die "rt lib failed in crates/$lib (above)"; }
     built=$root/crates/$lib/out/lib$lib.a
     [ -f "$built" ] || { cat "$target/rt.log" >&2; die "rt lib ended well, and there is no $built: this toolchain builds otherwise than the one that README.md names"; }
     shipped=$root/target/staticlib
