@@ -25,6 +25,7 @@ program_against_library() { # COMMAND...: cargo, so far as 'run'
     one "the program on a full standard output" "$log" program_says "standard output cannot be written" "$three" /dev/full
     one "the program with nothing to print on a full standard output" "$log" nothing_printed
     one "the program on a pipe that nobody reads" "$log" pipe_closed "$three"
+    one "the program on a pipe that nobody reads, where that signal is ignored" "$log" pipe_ignored "$three"
     one "the program leaves what comes after 4,096 bytes" "$log" reads_4096
     one "README.md's line for ./marks" "$log" readme_example
 }
@@ -71,6 +72,12 @@ pipe_closed() { # INPUT
     { sleep 1; "$root/marks" <"$1" 2>"$target/program.said" && echo 0 >"$status" || echo $? >"$status"; } | true
     echo "status $(cat "$status"), said: $(cat "$target/program.said")"
     [ "$(cat "$status")" -eq 141 ] && [ ! -s "$target/program.said" ] # 128 and SIGPIPE, 13
+}
+pipe_ignored() { # INPUT
+    status=$target/program.status
+    { sleep 1; (trap '' PIPE; "$root/marks" <"$1" 2>"$target/program.said" && echo 0 >"$status" || echo $? >"$status"); } | true
+    echo "status $(cat "$status"), said: $(cat "$target/program.said")"
+    [ "$(cat "$status")" -eq 1 ] && [ "$(cat "$target/program.said")" = 'marks: standard output cannot be written' ]
 }
 
 # ./marks itself, with a small program and an rt that are made here: nothing is proved. Each test begins with a folder that has been

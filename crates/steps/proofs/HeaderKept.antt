@@ -1,5 +1,5 @@
 -- Of the header a step and settle move L and no other word, whatever the words: so a pool is left as with the whole header written
--- (`step_words`, `settle_words_lem`).
+-- (`step_words_lem`, `settle_words_lem`).
 -- Why: what a step writes is slots (`applied_header` of crate kinds), and the header after it is the one before it with another L; the slots
 -- of the scan are numbered from 1. Assumes nothing.
 use mathlib.Core.Path.{◌≡◌, refl, sym, ap, ◌∙◌}

@@ -109,7 +109,7 @@ settle_under p h budget =
     written Q.words (settled (length Qs) (next_pool Q)) Q.header
 
 -- The entries of a pool: the header is read once, at the beginning, and L written once, at the end (RULES 4.12); a step moves no other word of
--- the header (`step_words`, `settle_words_lem` in proofs/HeaderKept.antt).
+-- the header (`step_words_lem`, `settle_words_lem` in proofs/HeaderKept.antt).
 abbrev pub level_written : Written → List ℕ
 level_written w = put_level w.words w.result.header.level
 
