@@ -31,6 +31,7 @@ use Rattle.format.proofs.Performing.{Does, does_refused, does_done, does_pool}
 use Rattle.updates.specs.Updating.{way, sum, by_root, freed, freed_words, sibling_of, joined, delete_root, delete_below, delete_leaf, delete_at_leaf, delete_under, delete_words, delete_answer}
 use Rattle.updates.proofs.Ways.{parent_of}
 use Rattle.updates.proofs.ByRoot.{by_root_lem, by_below}
+use Rattle.updates.proofs.RootLevels.{level_deleted, level_read, weight_added, joined_weight}
 use Rattle.updates.proofs.SearchShows.{root_empty, root_some, way_shows, leaf_shows}
 
 -- `Fork v s w b t`: the root v of t has two children, the leaf s, on either side, and b, to which an edge of weight w leads.
@@ -169,7 +170,7 @@ module _ {x : ℕ} where
 
   -- A cut at the root lowers L by the sibling's weight, and no other changes it.
   cutting_level : {t : Tree} {c : Cut} (d : Del x 1 t c) (o : (s : ℕ) → count s t ≤ 1) → Chromatic 1 t
-      → by_root (slot_of t) (cutting_root d o).parent (level t - (cutting_root d o).sibling_weight) (level t) ≡ level c.tree
+      → level_deleted (slot_of t) (cutting_root d o).parent (level t) (cutting_root d o).sibling_weight ≡ level c.tree
   unfolding cutting_root here lifted cut slot_of count
   cutting_level (cut_left {v} h) o e = by_root_lem v _ _ ∙ omega (arith, (delete_levels (cut_left h) e).same)
   cutting_level (cut_right {v} h) o e = by_root_lem v _ _ ∙ omega (arith, (delete_levels (cut_right h) e).same)
@@ -251,21 +252,21 @@ module _ {h : Header} {p : List ℕ} {S : State} {x a b : ℕ} {t u : Tree} (g :
   sibling_weight_lem = rw sibling_at.content (weight_of_root k.sibling_weight k.sibling)
 
   joined_is : joined (slot_of t) k.parent (slot_at p k.parent) (slot_at p b) ≡ moved
-  unfolding joined moved
+  unfolding moved
   joined_is =
       let v = k.parent in
-      let plus : sum (slot_at p v).weight (slot_at p b).weight ≡ k.weight + k.sibling_weight =
+      let plus : weight_added (slot_at p v) (slot_at p b) ≡ k.weight + k.sibling_weight =
       omega (arith, fork_held.weight_is, sibling_weight_lem, light v (parent_stands k), light b (omega (arith, within b, sibling_root b, one_same b b refl))) in
-      rw plus (rw sibling_at.content)
+      joined_weight (slot_of t) v (slot_at p v) (slot_at p b) ∙ rw plus (rw sibling_at.content)
 
   below_does : (n : ℕ) → slot_of u ≡ slot_of t → size t ≡ size u + 2 → size t / 2 ≡ n
-      → by_root (slot_of t) k.parent (level t - k.sibling_weight) (level t) ≡ level u
+      → level_deleted (slot_of t) k.parent (level t) k.sibling_weight ≡ level u
       → Does (delete_below p h k.parent a) (gives (Done n) (state S.slots (full u) (b ∷ (a ∷ S.free))))
   unfolding delete_below freed freed_words shown_header root_of nodes level_top
   below_does n root less half falls =
       let sibling-slot : sibling_of (slot_at p k.parent) a ≡ b = fork_held.sibling_is ∙ k.sibling_is in
       let was : h ≡ header (slot_of t) (head_of S.free) (size t) (level t) = rw tree_is at s.header_is in
-      rw was (rw (sibling-slot, joined_is, half, sibling_weight_lem, falls) (cut_does n root less))
+      rw was (rw (sibling-slot, joined_is, half, level_read (slot_of t) k.parent (level t) sibling_weight_lem, falls) (cut_does n root less))
 
 -- A root leaf is freed.
 root_does : {h : Header} {p : List ℕ} {S : State} (y k : ℕ) → Sound S → Shows h p S → S.top ≡ full (leaf y k)

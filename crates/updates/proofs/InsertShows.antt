@@ -30,6 +30,7 @@ use Rattle.format.proofs.Performing.{Does, does_refused, does_done, does_pool}
 use Rattle.updates.specs.Updating.{new_leaf, by_root, taken, split, insert_root, insert_beside, insert_at_leaf, insert_under, insert_words, insert_answer}
 use Rattle.updates.proofs.Ways.{reached_weight, reached_at}
 use Rattle.updates.proofs.ByRoot.{by_root_lem, by_below}
+use Rattle.updates.proofs.RootLevels.{level_inserted}
 use Rattle.updates.proofs.SearchShows.{root_empty, root_some, way_shows, leaf_shows}
 
 -- the inner node that v becomes
@@ -65,7 +66,7 @@ module _ {x a b : ℕ} where
 
   -- The second key makes L 1, and no other changes it.
   insert_level : {q : ℕ} {t u : Tree} → Ins x a b 1 t q u → Chromatic 1 t → ((s : ℕ) → count s t ≤ 1)
-      → by_root (slot_of t) (reached_slot x t) 1 (level t) ≡ level u
+      → level_inserted (slot_of t) (reached_slot x t) (level t) ≡ level u
   unfolding reached_slot reach slot_of level one is_leaf
   insert_level (at_leaf {v}) e c = by_root_lem v _ _
   insert_level (ins-left {v} {k} {wl} {wr} {l} {r} h i) e c =

@@ -60,7 +60,9 @@ returns c =
     let few = rw (c.get_header-h.ensures, c.slots_in-slots.ensures) at c.if-slots-h.false in
     let chain = rw (c.get_header-h.ensures, c.slots_in-slots.ensures) at c.if-not-walk_chain.ensures in
     let tree = rw (c.get_header-h.ensures, c.allowance.ensures) at c.in-Whole.ensures in
-    let same = rw (c.get_header-h.ensures) at c.if-l-h.false in
+    let level : c.in-Whole.l ≡ c.get_header-h.result.level = omega arith in
+    let none : c.in-Whole.rest ≡ 0 = omega arith in
+    let same = rw (c.get_header-h.ensures) at level in
     told _ (λ i. omega (arith, c.type_inv.pool i))
     (whole _ (sym c.if-not-length_good.ensures) few chain
-    ∙ (ap (counted _) (sym tree) ∙ counted_all _ _ _ c.get_header-h.ensures c.if-rest-ne0.false same))
+    ∙ (ap (counted _) (sym tree) ∙ counted_all _ _ _ c.get_header-h.ensures none same))
