@@ -82,7 +82,7 @@ module _ (S : State) (t : Tree) (sound : Sound S) (e : S.top ≡ full t) {h : He
           ∙ (ap has_children here ∙ (children_held held ∙ sym (holds_at_in (λ w u. not (is_leaf u)) y.put x.at (tree_once S t sound e s))))
 
   -- A slot that is no inner node has no condition that holds.
-  no_condition : (k : Kind) (s : ℕ) → inner_in s 1 t ≡ false → condition_at k s t ≡ false
+  pub no_condition : (k : Kind) (s : ℕ) → inner_in s 1 t ≡ false → condition_at k s t ≡ false
   no_condition k s i = go (condition_at k s t) refl
     where
       go : (b : Bool) → condition_at k s t ≡ b → b ≡ false
