@@ -1,0 +1,13 @@
+pub mod Scans
+pub mod SettleTurns
+pub mod Decides
+pub mod AllowedShows
+pub mod Rows
+pub mod Kept
+pub mod HeaderKept
+pub mod Wakes
+pub mod KinShows
+pub mod WakeShows
+pub mod SettleShows
+pub mod AfterUpdate
+pub mod Looks

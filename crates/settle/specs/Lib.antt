@@ -1,0 +1,5 @@
+pub mod Awake
+pub mod Scanning
+pub mod Waking
+pub mod Settling
+pub mod Looks

@@ -1,0 +1,349 @@
+// Document 01, settle on a pool's words, under a header that the caller has; and the same for a pool whose header lies in its first
+// words. After a step it looks only where that step can have made another one allowed: the slots are kept by blocks, and a block in which
+// none is allowed is asleep. Every function is total: on words that show no State it ends too, and its contract says what it does there.
+#![tactic(auto)]
+
+ghost use Rattle.std.specs.Prelude.{◌≡◌, suc, ◌-◌, ◌≤◌, min, slice_set};
+ghost use Rattle.tree.specs.Sights.{parent_sees, grand_sees};
+ghost use Rattle.settle.specs.Awake.{is_awake, wake, most_groups};
+ghost use Rattle.settle.specs.Scanning.{slot_counts, allowed_around, first_from, in_group, first_awake};
+ghost use Rattle.settle.specs.Waking.{two, woken_below, weight_after, kin_of, woken_above, wake_both, woken, woken_way};
+ghost use Rattle.settle.specs.Settling.{settle_from, settle_under, settled_after, settle_answer, settle_words};
+
+use format::{Header, Performed};
+use kinds::{Around, fits, look};
+use slots::{get_header, get_slot, last_slot, one_less, put_level};
+use steps::{at_limit, is_inner, take_step};
+use tree::{Answer, Kind, Named};
+use updates::{descend, toward};
+
+// The slots of a block.
+const BLOCK: u32 = 8;
+// The blocks of a group.
+const GROUP: u32 = 32;
+// The blocks of 16,384 slots; the groups' numbers stand after theirs.
+const BLOCKS: usize = 2048;
+
+const NUMBERS: usize = 2112;
+
+const AWAKE: u8 = 1;
+
+const ASLEEP: u8 = 0;
+
+// Whether the block or group whose number stands at i is awake.
+#[tactic(auto, unfolding(crate::specs::Awake::is_awake))]
+fn is_awake(awake: &[u8], i: usize) -> bool
+    ensures { result ≡ is_awake awake.now i }
+{
+    if i < awake.len() {
+        awake[i] == AWAKE
+    } else {
+        false
+    }
+}
+
+fn put_number(awake: &mut [u8], i: usize, x: u8)
+    ensures { awake.new ≡ slice_set awake.old i x }
+{
+    if i < awake.len() {
+        awake[i] = x;
+    }
+}
+
+// Wakes a slot's block and that block's group. 01: "0 is no slot".
+#[tactic(auto, unfolding(crate::specs::Awake::wake))]
+fn wake(awake: &mut [u8], s: u32)
+    ensures { awake.new ≡ wake awake.old s }
+{
+    if s != 0 {
+        let b = s / BLOCK;
+        put_number(awake, b as usize, AWAKE);
+        put_number(awake, BLOCKS + (b / GROUP) as usize, AWAKE);
+    }
+}
+
+// Two slots.
+#[derive(Clone, Copy)]
+pub struct Pair {
+    pub one: u32,
+    pub other: u32,
+}
+
+fn two(one: u32, other: u32) -> Pair
+    ensures { result ≡ two one other }
+{
+    Pair { one, other }
+}
+
+fn wake_both(awake: &mut [u8], c: Pair)
+    ensures { awake.new ≡ wake_both awake.old c }
+{
+    wake(awake, c.one);
+    wake(awake, c.other);
+}
+
+// Whether a slot counts: every one does.
+#[tactic(auto, unfolding(crate::specs::Scanning::slot_counts))]
+fn slot_counts(pool: &[u32], h: Header, s: u32) -> bool
+    ensures { result ≡ slot_counts h pool.now s }
+{
+    true
+}
+
+// "An allowed step is a slot and kind that would be accepted": here at an inner node s, around which a stands. The kind is asked first.
+#[tactic(auto, unfolding(crate::specs::Scanning::allowed_around))]
+fn allowed(pool: &[u32], h: Header, s: u32, kind: Kind, a: Around) -> bool
+    ensures { result ≡ allowed_around kind h pool.now s a }
+{
+    if !fits(kind, a) {
+        return false;
+    }
+    if at_limit(h, s, kind) {
+        return false;
+    }
+    slot_counts(pool, h, s)
+}
+
+// A slot, the lowest kind that is allowed there, and what was read around it, so that to take the step reads nothing.
+#[derive(Clone, Copy)]
+pub enum Lowest {
+    At(u32, Kind, Around),
+    Nothing,
+}
+
+// "the lowest slot with an allowed kind, and there the lowest kind", of the slots from `from` to below `to`.
+#[tactic(auto, using(tree::proofs::KindNumbers::not_unknown, crate::proofs::Scans::kinds_here, crate::proofs::Scans::kinds_next, crate::proofs::Scans::kinds_end, crate::proofs::Scans::kinds_none, crate::proofs::Scans::allowed_here, crate::proofs::Scans::slots_here, crate::proofs::Scans::slots_next, crate::proofs::Scans::slots_end))]
+fn first_among(pool: &[u32], h: Header, from: u32, to: u32) -> Lowest
+    ensures { result ≡ first_from (to - from) h pool.now from }
+{
+    let mut found = Lowest::Nothing;
+    'scan: for s in from..to {
+        let v = get_slot(pool, s);
+        if is_inner(pool, s, v) {
+            let a = look(pool, v);
+            for n in Kind::BLACKEN..=Kind::LIGHTEN_RIGHT {
+                if let Named::Known(k) = Kind::named(n) {
+                    if allowed(pool, h, s, k, a) {
+                        found = Lowest::At(s, k, a);
+                        break 'scan;
+                    }
+                }
+            }
+        }
+    }
+    found
+}
+
+fn smaller(a: u32, b: u32) -> u32
+    ensures { result ≡ min a b }
+{
+    if a <= b { a } else { b }
+}
+
+// The same of the blocks of a group that are awake, up to that of the last slot. One that allows nothing falls asleep.
+#[tactic(auto, using(crate::proofs::Scans::same_asleep, crate::proofs::Scans::same_nothing, crate::proofs::Scans::same_found, crate::proofs::Scans::same_end, crate::proofs::Scans::block_found, crate::proofs::Scans::block_leaves, crate::proofs::Scans::group_begins))]
+fn first_in_group(pool: &[u32], awake: &mut [u8], h: Header, g: u32) -> Lowest
+    requires { suc g ≤ most_groups }
+    ensures found { result ≡ (in_group h pool.now g awake.old).found }
+    ensures awake { awake.new ≡ (in_group h pool.now g awake.old).awake }
+{
+    let first = GROUP * g;
+    let end = smaller(first + GROUP, last_slot(pool) / BLOCK + 1);
+    for b in first..end {
+        if is_awake(awake, b as usize) {
+            let found = first_among(pool, h, BLOCK * b, BLOCK * b + BLOCK);
+            if let Lowest::At(_, _, _) = found {
+                return found;
+            }
+            put_number(awake, b as usize, ASLEEP);
+        }
+    }
+    Lowest::Nothing
+}
+
+// The same of the groups that are awake.
+#[tactic(auto, using(crate::proofs::Scans::same_asleep, crate::proofs::Scans::same_nothing, crate::proofs::Scans::same_found, crate::proofs::Scans::same_end, crate::proofs::Scans::groups_begin))]
+fn first_awake(pool: &[u32], awake: &mut [u8], h: Header) -> Lowest
+    ensures found { result ≡ (first_awake h pool.now awake.old).found }
+    ensures awake { awake.new ≡ (first_awake h pool.now awake.old).awake }
+{
+    let last = last_slot(pool) / BLOCK / GROUP;
+    for g in 0..=last {
+        if is_awake(awake, BLOCKS + g as usize) {
+            let found = first_in_group(pool, awake, h, g);
+            if let Lowest::At(_, _, _) = found {
+                return found;
+            }
+            put_number(awake, BLOCKS + g as usize, ASLEEP);
+        }
+    }
+    Lowest::Nothing
+}
+
+// The slots below v that a kind can wake: those that it turns, and of kind 1 both children.
+#[tactic(auto, unfolding(crate::specs::Waking::woken_below))]
+fn woken_below(kind: Kind, a: Around) -> Pair
+    ensures { result ≡ woken_below kind a }
+{
+    match kind {
+        Kind::Blacken => two(a.v.left, a.v.right),
+        Kind::SingleLeft => two(a.v.left, 0),
+        Kind::SingleRight => two(a.v.right, 0),
+        Kind::DoubleLeft => two(a.v.left, a.l.right),
+        Kind::DoubleRight => two(a.v.right, a.r.left),
+        Kind::Lighten => two(0, 0),
+        Kind::LightenLeft => two(a.v.right, 0),
+        Kind::LightenRight => two(a.v.left, 0),
+    }
+}
+
+// The weight of v, w before, after a kind below the root.
+#[tactic(auto, unfolding(crate::specs::Waking::weight_after))]
+fn weight_after(kind: Kind, w: u32) -> u32
+    ensures { result ≡ weight_after kind w }
+{
+    match kind {
+        Kind::Blacken => one_less(w),
+        Kind::SingleLeft => w,
+        Kind::SingleRight => w,
+        Kind::DoubleLeft => w,
+        Kind::DoubleRight => w,
+        Kind::Lighten => std::num::wrapping_add_u32(w, 1),
+        Kind::LightenLeft => w,
+        Kind::LightenRight => w,
+    }
+}
+
+// Where an edge had weight w and has weight q: whether the node above it sees a difference; and the node above that.
+#[tactic(auto, using(tree::proofs::Tests::red_test, tree::proofs::Tests::overweighted_test), unfolding(tree::specs::Sights::parent_sees))]
+fn parent_sees(w: u32, q: u32) -> bool
+    ensures { result ≡ parent_sees w q }
+{
+    (w == 0) | (q == 0) | ((1 < w) != (1 < q))
+}
+
+#[tactic(auto, using(tree::proofs::Tests::red_test), unfolding(tree::specs::Sights::grand_sees))]
+fn grand_sees(w: u32, q: u32) -> bool
+    ensures { result ≡ grand_sees w q }
+{
+    (w == 0) != (q == 0)
+}
+
+// A search for the key from slot root on, until it meets slot s: the parent's slot and the grandparent's, 0 where there is none. It goes
+// down at most C slots, so it ends on any words.
+#[tactic(auto, using(crate::proofs::Scans::kin_met, crate::proofs::Scans::kin_on, crate::proofs::Scans::kin_end), unfolding(crate::specs::Waking::kin_of))]
+fn kin_of(pool: &[u32], root: u32, key: u32, s: u32) -> Pair
+    ensures { result ≡ kin_of pool.now root key s }
+{
+    let mut grand: u32 = 0;
+    let mut parent: u32 = 0;
+    let mut v = root;
+    let mut left = last_slot(pool);
+    while 0 < left {
+        if v == s {
+            return two(parent, grand);
+        }
+        grand = parent;
+        parent = v;
+        v = toward(get_slot(pool, v), key);
+        left -= 1;
+    }
+    two(parent, grand)
+}
+
+// The slots above that see a difference where the weight of slot s goes from w to q; key is its router.
+#[tactic(auto, unfolding(crate::specs::Waking::woken_above))]
+fn woken_above(pool: &[u32], root: u32, key: u32, s: u32, w: u32, q: u32) -> Pair
+    ensures { result ≡ woken_above pool.now root key s w q }
+{
+    if !parent_sees(w, q) {
+        return two(0, 0);
+    }
+    let kin = kin_of(pool, root, key, s);
+    if grand_sees(w, q) {
+        kin
+    } else {
+        two(kin.one, 0)
+    }
+}
+
+// Before a kind is taken at slot s, around which a stands: wakes what it can make allowed.
+#[tactic(auto, unfolding(crate::specs::Waking::woken))]
+fn wake_around(pool: &[u32], awake: &mut [u8], h: Header, s: u32, kind: Kind, a: Around)
+    ensures { awake.new ≡ woken h pool.now s kind a awake.old }
+{
+    let w = a.v.weight;
+    wake_both(awake, woken_below(kind, a));
+    wake_both(
+        awake,
+        woken_above(pool, h.root, a.v.key, s, w, weight_after(kind, w)),
+    );
+}
+
+// "Settle repeats: the lowest slot with an allowed kind, and there the lowest kind, until none is left or the budget is spent."
+#[tactic(auto, using(crate::proofs::SettleTurns::begin, crate::proofs::SettleTurns::turn, crate::proofs::SettleTurns::done, crate::proofs::SettleTurns::spent))]
+fn settle_from(pool: &mut [u32], awake: &mut [u8], h: Header, budget: u32) -> Performed
+    ensures result { result ≡ (settle_from awake.old pool.old h budget).result }
+    ensures pool { pool.new ≡ (settle_from awake.old pool.old h budget).words }
+{
+    let mut header = h;
+    let mut taken: u32 = 0;
+    loop {
+        let Lowest::At(s, k, a) = first_awake(pool, awake, header) else {
+            return Performed {
+                answer: Answer::Done(taken),
+                header,
+            };
+        };
+        if taken == budget {
+            return Performed {
+                answer: Answer::Spent(taken),
+                header,
+            };
+        }
+        wake_around(pool, awake, header, s, k, a);
+        header = take_step(pool, header, s, k, a);
+        taken += 1;
+    }
+}
+
+// Settle, of any pool: every slot is looked at once, and then what the steps wake.
+pub fn settle_under(pool: &mut [u32], h: Header, budget: u32) -> Performed
+    ensures result { result ≡ (settle_under pool.old h budget).result }
+    ensures pool { pool.new ≡ (settle_under pool.old h budget).words }
+{
+    let mut awake = [AWAKE; NUMBERS];
+    settle_from(pool, &mut awake, h, budget)
+}
+
+// Wakes what an insert or delete of the key can have made allowed in a tree that was red-black.
+#[tactic(auto, unfolding(crate::specs::Waking::woken_way))]
+fn wake_way(pool: &[u32], awake: &mut [u8], root: u32, key: u32)
+    ensures { awake.new ≡ woken_way root pool.now key awake.old }
+{
+    let w = descend(pool, root, key);
+    wake_both(awake, two(w.leaf, w.parent));
+    wake_both(awake, kin_of(pool, root, key, w.parent));
+}
+
+// Settle for a caller who knows that the tree was red-black before one insert or delete of the key. Of another tree it takes some of the steps
+// that `settle_under` would, and may leave some.
+pub fn settle_after(pool: &mut [u32], h: Header, key: u32, budget: u32) -> Performed
+    ensures result { result ≡ (settled_after pool.old h key budget).result }
+    ensures pool { pool.new ≡ (settled_after pool.old h key budget).words }
+{
+    let mut awake = [ASLEEP; NUMBERS];
+    wake_way(pool, &mut awake, h.root, key);
+    settle_from(pool, &mut awake, h, budget)
+}
+
+#[tactic(auto, unfolding(crate::specs::Settling::settle_answer, crate::specs::Settling::settle_words))]
+pub fn settle(pool: &mut [u32], budget: u32) -> Answer
+    ensures answer { result ≡ settle_answer pool.old budget }
+    ensures pool { pool.new ≡ settle_words pool.old budget }
+{
+    let h = get_header(pool);
+    let settled = settle_under(pool, h, budget);
+    put_level(pool, settled.header.level);
+    settled.answer
+}
