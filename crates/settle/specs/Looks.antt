@@ -1,4 +1,4 @@
--- How much settle looks at (RULES 5): the slots, the numbers of blocks and groups, and the slots that its searches for a parent pass. No
+-- How much settle looks at (serves RULES 5): the slots, the numbers of blocks and groups, and the slots that its searches for a parent pass. No
 -- public contract cites this page.
 use Rattle.std.specs.Prelude.{ℕ, zero, suc, ◌+◌, ◌/◌, true, false, List, [], ◌∷◌}
 use Rattle.tree.specs.declared.Kind.{Kind}
@@ -30,7 +30,7 @@ looks_from (suc budget) P = let h = P.header in let p = P.words in let r = scann
 abbrev pub settle_looks : List ℕ → Header → ℕ → ℕ
 settle_looks p h budget = looks_from budget (pool_of h p all_awake)
 
--- RULES 5.4. What bounds it, in a pool of c slots: once c and c / 8 and a little, and for each step a number that c moves by at most 63,
+-- What bounds it, in a pool of c slots: once c and c / 8 and a little, and for each step a number that c moves by at most 63,
 abbrev pub looks_once : ℕ → ℕ
 looks_once c = c + c / 8 + 144
 

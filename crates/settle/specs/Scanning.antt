@@ -1,4 +1,4 @@
--- Document 01, on words: the allowed steps (RULES 5.1), and the first of them (RULES 5.2), among all slots and among those that are awake; and
+-- Document 01, on words: the allowed steps and the first of them (serves RULES 5.1 and 5.2), among all slots and among those that are awake; and
 -- how much is looked at on the way.
 use Rattle.std.specs.Prelude.{ℕ, zero, suc, ◌+◌, ◌-◌, ◌*◌, ◌/◌, min, Bool, true, false, not, ◌&&◌, List, [], ◌∷◌, slice_set}
 use Rattle.std.proofs.Math.Option.{Option, none, some}

@@ -1,4 +1,4 @@
--- Document 01, on words: settle as the list of pools that it goes through (RULES 5), the header given by value, with what is awake at the
+-- Document 01, on words: settle as the list of pools that it goes through (serves RULES 5), the header given by value, with what is awake at the
 -- beginning; and the same for a pool whose header lies in its first words.
 use Rattle.std.specs.Prelude.{ℕ, zero, suc, List, [], ◌∷◌, length}
 use Rattle.std.proofs.Math.Option.{Option, none, some}
