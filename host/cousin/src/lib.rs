@@ -20,7 +20,7 @@ pub use ledger::{clear_notice, may_send};
 pub use pool::{audit, prepare};
 pub use report::report;
 pub use saved::{load, save};
-pub use steps::first_allowed;
+pub use steps::{first_allowed, settle_awake, Answer};
 
 /// The codes of documents 01 and 02, each once.
 pub mod code {

@@ -1,7 +1,11 @@
 //! The eight kinds, a step, the first allowed step, settle; on a sound pool.
 
+mod awake;
+
 use crate::code;
 use crate::pool::{level, put, read, root, set_level, slots_of, word, Slot, HEAVIEST, KEY, LEFT, RIGHT, WEIGHT};
+
+pub use awake::settle_awake;
 
 const KINDS: u32 = 8;
 

@@ -1,7 +1,10 @@
 //! Nanoseconds of the library, of its cousin, and of what a user would pick instead: same machine, same input, all built
 //! for release. In brackets, how many times a contestant's time the library takes.
 
+mod limit;
+mod picture;
 mod sets;
+mod sizes;
 
 use chromatic::{Command, Kind};
 use sets::{all, pools, Set, Work};
@@ -141,6 +144,11 @@ fn race_calls(what: &str, sets: &mut [Box<dyn Set>], before: impl Fn(&mut dyn Se
     line(what, &times);
 }
 
+/// So many ascending keys, far enough apart for others between them.
+fn spread(count: usize) -> Vec<u32> {
+    (0..count as u32).map(|i| i * 997 + 13).collect()
+}
+
 fn each(keys: &[u32], command: fn(u32) -> Command) -> Vec<Command> {
     keys.iter().map(|&key| command(key)).collect()
 }
@@ -197,7 +205,7 @@ fn steps_from(words: &[u32]) -> Vec<Command> {
 
 fn table(count: usize, slots: usize) {
     let mut rng = Rng(88_172_645_463_325_252);
-    let spread: Vec<u32> = (0..count as u32).map(|i| i * 997 + 13).collect();
+    let spread = spread(count);
     let keys = rng.shuffled(&spread);
     let mut sets = all(slots);
     let fill = Work::new(each(&keys, insert), 256);
@@ -373,18 +381,18 @@ fn ledger_rows(rng: &mut Rng, count: usize, slots: usize) {
 
 const CHAINED_SLOTS: u32 = 1023;
 
-/// The saved form of 512 keys in 1,023 slots: half of them in a chain to the left below the root, half in one to the right, every inner
-/// edge red, every leaf of weight `level`. From the root it is 256 edges to the first leaf and to the last. The root is slot 1, and kind 1's
-/// condition holds there.
-fn two_chains(level: u32) -> Vec<u8> {
-    const KEYS: u32 = CHAINED_SLOTS.div_ceil(2);
-    const HALF: u32 = KEYS / 2;
+/// The saved form of (C + 1) / 2 keys in C slots: half of them in a chain to the left below the root, half in one to the right, every inner
+/// edge red, every leaf of weight `level`. Of 1,023 slots it is 256 edges from the root to the first leaf and to the last. The root is slot 1,
+/// and kind 1's condition holds there.
+fn two_chains(slots: u32, level: u32) -> Vec<u8> {
+    let keys = slots.div_ceil(2);
+    let half = keys / 2;
     let (red, leaf) = (1, 2 * level);
-    let mut numbers = vec![CHAINED_SLOTS, 2 * KEYS - 1, 3, HALF - 1];
-    (0..HALF - 1).rev().for_each(|router| numbers.extend([red, router]));
-    (0..HALF).for_each(|key| numbers.extend([leaf, key]));
-    (HALF..KEYS - 1).for_each(|key| numbers.extend([red, key, leaf, key]));
-    numbers.extend([leaf, KEYS - 1]);
+    let mut numbers = vec![slots, 2 * keys - 1, 3, half - 1];
+    (0..half - 1).rev().for_each(|router| numbers.extend([red, router]));
+    (0..half).for_each(|key| numbers.extend([leaf, key]));
+    (half..keys - 1).for_each(|key| numbers.extend([red, key, leaf, key]));
+    numbers.extend([leaf, keys - 1]);
     let mut bytes = vec![];
     for mut number in numbers {
         while number >= 0x80 {
@@ -403,7 +411,7 @@ const MOST_LEVEL: u32 = 255;
 /// does not ask for it.
 fn level_rows() {
     let mut sets = pools(CHAINED_SLOTS as usize);
-    let saved = two_chains(MOST_LEVEL);
+    let saved = two_chains(CHAINED_SLOTS, MOST_LEVEL);
     for set in sets.iter_mut() {
         assert_eq!(set.load_from(&saved), CHAINED_SLOTS.into(), "{}", set.name());
         assert_eq!(set.pooled().map(|p| (p.report)(&p.words, 2)), Some(MOST_LEVEL.into()), "{}", set.name());
@@ -420,11 +428,33 @@ fn level_rows() {
     race_pools("report's second number, a call", &mut sets, |set| set.pooled().map_or(0, |p| (p.report)(black_box(&p.words), 2)));
 }
 
+/// What `host/bench` hands on: `--sizes`, for the cost by size and the audit's limit in place of the other tables, and `--picture FILE`.
 fn main() {
+    let (mut sizes, mut picture) = (false, None);
+    let mut words = std::env::args().skip(1);
+    while let Some(word) = words.next() {
+        match word.as_str() {
+            "--sizes" => sizes = true,
+            "--picture" => picture = words.next(),
+            _ => panic!("{word} is not known"),
+        }
+    }
     println!("in brackets: the library's time divided by that contestant's");
     println!("net: the audit that begins every call of a pool is taken off; all told: it is counted");
+    if sizes {
+        return by_size(picture);
+    }
     for (keys, slots) in TABLES {
         table(keys, slots);
     }
     level_rows();
+}
+
+fn by_size(picture: Option<String>) {
+    let rows = sizes::table();
+    limit::table();
+    if let Some(file) = picture {
+        std::fs::write(&file, picture::svg(&rows)).unwrap_or_else(|why| panic!("{file} is not written: {why}"));
+        println!("cost by size, drawn: {file}");
+    }
 }
