@@ -4,7 +4,7 @@
 -- tree is the old one with one subtree replaced, the parent's by the sibling moved to the parent's slot (`Cutting`). The sum of the
 -- two weights does not wrap, for none is above 255; and a tree of k keys has 2k - 1 nodes. Where the parent is the root the edge above
 -- it stays 1, so L falls by the sibling's weight, and else it stays (`cutting_level`). Assumes nothing.
-use Rattle.std.proofs.Common.{◌≡◌, ℕ, pred, ◌+◌, ◌-◌, ◌/◌, ◌<◌, ◌≤◌, eqb, ◌≢◌, List, [], ◌∷◌, sym, refl, ap, ◌∙◌, arith, eq-eqb, ne_eqb, le-leb}
+use Rattle.std.proofs.Common.{◌≡◌, ℕ, pred, ◌+◌, ◌/◌, ◌<◌, ◌≤◌, eqb, ◌≢◌, List, [], ◌∷◌, sym, refl, ap, ◌∙◌, arith, eq-eqb, ne_eqb, le-leb}
 use borrow.Author.Tests.{lt-leb}
 use Rattle.tree.specs.declared.Answer.TheVariants.{Done}
 use Rattle.tree.specs.declared.Refusal.TheVariants.{KeyAbsent}
@@ -28,7 +28,7 @@ use Rattle.format.proofs.Replace.{In, top, in_left, in_right, in_holds, in_count
 use Rattle.format.proofs.Shown.{placed_once, shows_tree}
 use Rattle.format.proofs.Cover.{tree_light}
 use Rattle.format.proofs.Performing.{Does, does_refused, does_done, does_pool}
-use Rattle.updates.specs.Updating.{way, sum, by_root, freed, freed_words, sibling_of, joined, delete_root, delete_below, delete_leaf, delete_at_leaf, delete_under, delete_words, delete_answer}
+use Rattle.updates.specs.Updating.{way, by_root, freed, freed_words, sibling_of, joined, delete_root, delete_below, delete_leaf, delete_at_leaf, delete_under, delete_words, delete_answer}
 use Rattle.updates.proofs.Ways.{parent_of}
 use Rattle.updates.proofs.ByRoot.{by_root_lem, by_below}
 use Rattle.updates.proofs.RootLevels.{level_deleted, level_read, weight_added, joined_weight}
