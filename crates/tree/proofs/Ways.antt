@@ -14,7 +14,7 @@ use Rattle.tree.specs.Updates.{reach}
 use Rattle.tree.proofs.Tests.{either_way, same_or_not}
 use Rattle.tree.proofs.Counts.{is_other}
 use Rattle.tree.proofs.Order.{ordered_bounds}
-use Rattle.tree.proofs.Reach.{reach_left, reach_right}
+use Rattle.tree.proofs.Search.{reach_left, reach_right}
 use Rattle.tree.proofs.Steps.{At, at_root, at_left, at_right, at_count}
 
 -- the key or router of a tree's root
