@@ -6,6 +6,6 @@ use Rattle.batch.proofs.batch.Goals as goal
 
 pub returns-in-BadAt : goal.returns-in-BadAt
 returns-in-BadAt c =
-    let bad = finds_bad _ _ c.scan-found.ensures c.args.pool.now c.args.answers.now (sym c.if-not-length_good.ensures) _ c.in-BadAt.is in
-    let t = call_refuses (BadCommand _) _ _ _ bad (c.refuse-in-BadAt.ensures.code, c.refuse-in-BadAt.ensures.number) in
-    record { code = t.0; number = t.1.0; pool = t.1.1.0; answers = t.1.1.1 }
+    let bad = finds_bad _ _ c.scan.ensures c.args.pool.now c.args.answers.now (sym c.if-not-length_good.ensures) _ c.in-BadAt.is in
+    let t = call_refuses (BadCommand c.in-BadAt.place) c.args.pool.now c.args.answers.now in
+    rw bad (record { code = sym t.0; number = sym t.1.0; pool = sym t.1.1.0; answers = sym t.1.1.1 })
