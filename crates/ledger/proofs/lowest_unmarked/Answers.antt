@@ -2,7 +2,7 @@
 use Rattle.std.proofs.Common.{◌≡◌, ℕ, ◌+◌, ◌-◌, false, Result, Ok, Err, is_err, sym, ◌∙◌, arith}
 use Rattle.tree.specs.declared.Answer.{Answer}
 use Rattle.tree.specs.declared.Refusal.{Refusal}
-use Rattle.tree.specs.Codes.{answer_of, code_of}
+use Rattle.set.specs.Operations.{answer_of, code_of}
 use Rattle.ledger.proofs.Asking.{lowest_on, search_finds}
 use Rattle.ledger.proofs.lowest_unmarked.Goals as goal
 
