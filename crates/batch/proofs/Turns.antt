@@ -14,6 +14,7 @@ use Rattle.format.specs.Shows.{Shows}
 use Rattle.format.proofs.Shown.{written_decided}
 use Rattle.encoding.specs.declared.Command.{Command}
 use Rattle.std.specs.Prelude.{Ok, Err}
+use Rattle.encoding.specs.declared.Fault.{Fault}
 use Rattle.encoding.specs.Batch.{most_commands, command_at, perform, answers_of, run_all, Call, called, batch}
 use Rattle.encoding.proofs.Endings.{ran_ends}
 use Rattle.encoding.proofs.Performs.{perform_sound}
@@ -59,7 +60,7 @@ turn_starts {h} {p} {bytes} {out} r =
     }
 
 module _ {bytes : List ℕ} {k : Call} {h : Header} {p out : List ℕ} {at place : ℕ} (w : Turn bytes k h p out at place) where
-  pub turn_fault : {j : ℕ} → at < length bytes → command_at bytes at ≡ Err (fault j) → ⊥
+  pub turn_fault : {f : Fault} → at < length bytes → command_at bytes at ≡ Err f → ⊥
   turn_fault l e = running_fault w.running l e
 
   -- two more answer words, of at most 512
