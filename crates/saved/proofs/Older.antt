@@ -20,9 +20,8 @@ use Rattle.tree.specs.declared.Refusal.TheVariants.{BadSaved, NoFit}
 use Rattle.tree.specs.Codes.{most_slots}
 use Rattle.tree.specs.State.{State, Top}
 use Rattle.format.specs.Words.{length_good, slots_in}
-use Rattle.encoding.specs.declared.Number.{Number}
-use Rattle.encoding.specs.declared.Number.TheVariants.{Read, Wrong}
-use Rattle.encoding.specs.Numbers.{number}
+use Rattle.encoding.specs.Numbers.{Reading, number}
+use Rattle.std.specs.Prelude.{Ok, Err}
 use Rattle.saved.specs.Saved.{with_rest}
 use Rattle.saved.specs.Loaded.{Numbers, numbers, misread, before, numbers_at, node_numbers, count_numbers, numbers_in, top_from, is_count, with_top, state_from, loaded_numbers, loaded_up_to, loaded, place_in, bad_place}
 use Rattle.saved.specs.Calls.{refuses, load_state, load_call, place_word}
@@ -111,13 +110,13 @@ module _ (most c n : ℕ) (h : most < c) where
       go true e = rw (e, loaded_numbers, none_above most c n h, state_from)
       go false e = rw (e, loaded_numbers)
 
-above_unread : (most : ℕ) (bytes : List ℕ) {c next : ℕ} → number bytes 0 ≡ Read c next → most < c → loaded_up_to most bytes ≡ none
+above_unread : (most : ℕ) (bytes : List ℕ) {c next : ℕ} → number bytes 0 ≡ Ok (c, next) → most < c → loaded_up_to most bytes ≡ none
 unfolding loaded_up_to numbers_in count_numbers node_numbers loaded_numbers
 above_unread most bytes {c} {next} e h = rw e (go (number bytes next))
   where
-    go : (x : Number) → loaded_numbers most (length bytes) (node_numbers bytes c x) ≡ none
-    go (Read n after) = above_none most c n h (length bytes) (numbers_at (2 * n) bytes after)
-    go (Wrong j) = refl
+    go : (x : Reading ℕ) → loaded_numbers most (length bytes) (node_numbers bytes c x) ≡ none
+    go (Ok (n, after)) = above_none most c n h (length bytes) (numbers_at (2 * n) bytes after)
+    go (Err f) = refl
 
 -- Of bytes that are read no number goes wrong.
 read_place : (most : ℕ) (bytes : List ℕ) {S : State} → loaded_up_to most bytes ≡ some S → bad_place bytes ≡ length bytes
@@ -147,7 +146,7 @@ module _ (p bytes : List ℕ) (long : length_good p ≡ true) (known : slots_in 
   before_is = rw (long, le-leb (slots_in p) most_before known, load_before)
 
   -- "An installation not yet updated refuses a saved C above 1,023 with 13 and writes nothing."
-  pub before_refuses : {c next : ℕ} → number bytes 0 ≡ Read c next → most_before < c → load_before p bytes ≡ refuses (BadSaved (place_word (bad_place bytes))) p
+  pub before_refuses : {c next : ℕ} → number bytes 0 ≡ Ok (c, next) → most_before < c → load_before p bytes ≡ refuses (BadSaved (place_word (bad_place bytes))) p
   unfolding load_state
   before_refuses e large = before_is ∙ rw (above_unread most_before bytes e large)
 

@@ -10,9 +10,10 @@ use lib.ListN.{length}
 use Prim.Native.Nat.{ℕ, zero, suc, ◌*◌, ◌-◌, ◌≤◌, ◌<◌}
 use native.Mathlib.Numerals.{sub-one}
 use native.Mathlib.Omega.{arith}
-use Rattle.encoding.specs.declared.Number.TheVariants.{Read, Wrong}
-use Rattle.encoding.specs.Numbers.{Bytes, number}
+use Rattle.std.specs.Prelude.{Ok, Err}
+use Rattle.encoding.specs.Numbers.{fault, Bytes, number}
 use Rattle.numbers.proofs.Faults.{bad_near, number_bad}
+use Rattle.encoding.specs.declared.Fault.{Fault}
 use Rattle.saved.specs.Loaded.{Numbers, numbers, misread, before, numbers_at, node_numbers, count_numbers, numbers_in, loaded_numbers, loaded_up_to, loaded, place_in, bad_place}
 use Rattle.saved.specs.Misread.{Reads, reads_none, reads_more, asked, Unwritten, MisreadAt, bad_number, no_whole}
 use Rattle.saved.specs.Calls.{last_word, place_word}
@@ -30,7 +31,7 @@ module _ (bytes : List ℕ) where
   place_read e = rw e
 
   -- Some numbers that stand in the bytes: fewer than are asked for, and the next goes wrong; or all.
-  wrong_in : {vs : List ℕ} {i j : ℕ} → Reads bytes 0 vs i → length vs < asked vs → number bytes i ≡ Wrong j → numbers_in bytes ≡ misread j
+  wrong_in : {vs : List ℕ} {i j : ℕ} → Reads bytes 0 vs i → length vs < asked vs → number bytes i ≡ Err (fault j) → numbers_in bytes ≡ misread j
   unfolding numbers_in count_numbers node_numbers before
   wrong_in reads_none l w = rw w
   wrong_in (reads_more e reads_none) l w = rw (e, w)
@@ -76,27 +77,27 @@ module _ (bytes : List ℕ) where
   unfolding numbers_at place_in
   place_end n i e = rw e
 
-  pub place_next : (n i : ℕ) {v next : ℕ} → 0 < n → number bytes i ≡ Read v next
+  pub place_next : (n i : ℕ) {v next : ℕ} → 0 < n → number bytes i ≡ Ok (v, next)
       → place_in (length bytes) (numbers_at n bytes i) ≡ place_in (length bytes) (numbers_at (n - 1) bytes next)
   place_next zero i h e = absurd (omega arith)
   place_next (suc n) i {v} {next} h e = rw (sub-one (suc n), at_more n bytes i e) (one_placed v (numbers_at n bytes next))
 
-  pub place_stop : (n i : ℕ) {j : ℕ} → 0 < n → number bytes i ≡ Wrong j → place_in (length bytes) (numbers_at n bytes i) ≡ j
+  pub place_stop : (n i : ℕ) {f : Fault} → 0 < n → number bytes i ≡ Err f → place_in (length bytes) (numbers_at n bytes i) ≡ f.place
   unfolding place_in
   place_stop zero i h e = absurd (omega arith)
   place_stop (suc n) i h e = rw (at_wrong n bytes i e)
 
   -- C, N, and the nodes
-  pub slots_wrong : {j : ℕ} → number bytes 0 ≡ Wrong j → bad_place bytes ≡ j
+  pub slots_wrong : {f : Fault} → number bytes 0 ≡ Err f → bad_place bytes ≡ f.place
   unfolding bad_place place_in numbers_in count_numbers
   slots_wrong e = rw e
 
-  module _ {c i : ℕ} (e : number bytes 0 ≡ Read c i) where
-    pub count_wrong : {j : ℕ} → number bytes i ≡ Wrong j → bad_place bytes ≡ j
+  module _ {c i : ℕ} (e : number bytes 0 ≡ Ok (c, i)) where
+    pub count_wrong : {f : Fault} → number bytes i ≡ Err f → bad_place bytes ≡ f.place
     unfolding bad_place place_in numbers_in count_numbers node_numbers
     count_wrong f = rw (e, f)
 
-    pub nodes_wrong : {n at count : ℕ} → number bytes i ≡ Read n at → count ≡ 2 * n → bad_place bytes ≡ place_in (length bytes) (numbers_at count bytes at)
+    pub nodes_wrong : {n at count : ℕ} → number bytes i ≡ Ok (n, at) → count ≡ 2 * n → bad_place bytes ≡ place_in (length bytes) (numbers_at count bytes at)
     unfolding bad_place numbers_in count_numbers node_numbers
     nodes_wrong {n} {at} f twice = rw (e, f, twice) (one_placed c (before n (numbers_at (2 * n) bytes at)) ∙ one_placed n (numbers_at (2 * n) bytes at))
 

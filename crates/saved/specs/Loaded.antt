@@ -1,13 +1,11 @@
 -- 02 (i), the reader (RULES 16): it reads all numbers, grows a tree of them, and judges it. Executable; that it takes exactly what a sound
 -- State is written as, 02's own words, is `accepted_exactly`. Its tests are those of the pool's rules: it serves RULES 1, 2.
-use Rattle.std.specs.Prelude.{Bool, true, false, ◌&&◌, List, [], ◌∷◌, eqb, leb, ltb, length, ℕ, zero, suc, ◌+◌, ◌*◌, ◌/◌, ◌%◌}
+use Rattle.std.specs.Prelude.{Bool, true, false, ◌&&◌, List, [], ◌∷◌, eqb, leb, ltb, length, ℕ, zero, suc, ◌+◌, ◌*◌, ◌/◌, ◌%◌, Ok, Err}
 use Rattle.std.proofs.Math.Option.{Option, none, some}
 use Rattle.tree.specs.Codes.{most_slots, most_level}
 use Rattle.tree.specs.Tree.{Tree, leaf, node, size, level}
 use Rattle.tree.specs.State.{State, Top, empty, full, key_end}
-use Rattle.encoding.specs.declared.Number.{Number}
-use Rattle.encoding.specs.declared.Number.TheVariants.{Read, Wrong}
-use Rattle.encoding.specs.Numbers.{number}
+use Rattle.encoding.specs.Numbers.{Reading, number}
 use Rattle.saved.specs.Saved.{with_rest}
 
 -- Numbers read from bytes and the place after them; or the byte at which the first bad one goes wrong.
@@ -22,16 +20,16 @@ before v (misread j) = misread j
 -- n numbers from place i on
 unfoldable pub numbers_at : ℕ → List ℕ → ℕ → Numbers
 numbers_at zero bytes i = numbers [] i
-numbers_at (suc n) bytes i = elim (number bytes i) [ Read v next ↦ before v (numbers_at n bytes next) | Wrong j ↦ misread j ]
+numbers_at (suc n) bytes i = elim (number bytes i) [ Ok (v, next) ↦ before v (numbers_at n bytes next) | Err f ↦ misread f.place ]
 
 -- 02 (ii) (RULES 16.1): "The saved-form reader reads C, N and then two numbers for each of N nodes", before it judges any of them.
-unfoldable pub node_numbers : List ℕ → ℕ → Number → Numbers
-node_numbers bytes c (Read n next) = before c (before n (numbers_at (2 * n) bytes next))
-node_numbers bytes c (Wrong j) = misread j
+unfoldable pub node_numbers : List ℕ → ℕ → Reading ℕ → Numbers
+node_numbers bytes c (Ok (n, next)) = before c (before n (numbers_at (2 * n) bytes next))
+node_numbers bytes c (Err f) = misread f.place
 
-unfoldable pub count_numbers : List ℕ → Number → Numbers
-count_numbers bytes (Read c next) = node_numbers bytes c (number bytes next)
-count_numbers bytes (Wrong j) = misread j
+unfoldable pub count_numbers : List ℕ → Reading ℕ → Numbers
+count_numbers bytes (Ok (c, next)) = node_numbers bytes c (number bytes next)
+count_numbers bytes (Err f) = misread f.place
 
 unfoldable pub numbers_in : List ℕ → Numbers
 numbers_in bytes = count_numbers bytes (number bytes 0)
