@@ -23,7 +23,7 @@ use Rattle.format.specs.Words.{length_good, slots_in}
 use Rattle.encoding.specs.Numbers.{Reading, number}
 use Rattle.std.specs.Prelude.{Ok, Err}
 use Rattle.saved.specs.Saved.{with_rest}
-use Rattle.saved.specs.Loaded.{Numbers, numbers, misread, before, numbers_at, node_numbers, count_numbers, numbers_in, top_from, is_count, with_top, state_from, loaded_numbers, loaded_up_to, loaded, place_in, bad_place}
+use Rattle.saved.specs.Loaded.{before, numbers_at, node_numbers, count_numbers, numbers_in, top_from, is_count, with_top, state_from, loaded_numbers, loaded_up_to, loaded, place_in, bad_place}
 use Rattle.saved.specs.Calls.{refuses, load_state, load_call, place_word}
 use Rattle.saved.specs.Older.{most_before, load_before}
 use Rattle.saved.proofs.Restarts.{load_differs}
@@ -68,12 +68,12 @@ module _ (few most : ℕ) (h : few ≤ most) where
       go (no k) true e = rw (same_within c n (omega arith), e, state_from, cut_within few c (omega arith) (top_from n vs))
       go (no k) false e = rw (same_within c n (omega arith), e, state_from)
 
-  numbers_cut : (end : ℕ) (x : Numbers) → loaded_numbers few end x ≡ cut few (loaded_numbers most end x)
+  numbers_cut : (end : ℕ) (x : Reading (List ℕ)) → loaded_numbers few end x ≡ cut few (loaded_numbers most end x)
   unfolding cut loaded_numbers
-  numbers_cut end (misread j) = refl
-  numbers_cut end (numbers vs next) = go (eqb next end) refl
+  numbers_cut end (Err f) = refl
+  numbers_cut end (Ok (vs, next)) = go (eqb next end) refl
     where
-      go : (b : Bool) → eqb next end ≡ b → loaded_numbers few end (numbers vs next) ≡ cut few (loaded_numbers most end (numbers vs next))
+      go : (b : Bool) → eqb next end ≡ b → loaded_numbers few end (Ok (vs, next)) ≡ cut few (loaded_numbers most end (Ok (vs, next)))
       go true e = rw (e, loaded_numbers, state_cut vs)
       go false e = rw (e, loaded_numbers)
 
@@ -101,12 +101,12 @@ module _ (few most : ℕ) (h : few ≤ most) where
 
 -- Bytes that begin with a C above the limit.
 module _ (most c n : ℕ) (h : most < c) where
-  above_none : (end : ℕ) (x : Numbers) → loaded_numbers most end (before c (before n x)) ≡ none
+  above_none : (end : ℕ) (x : Reading (List ℕ)) → loaded_numbers most end (before c (before n x)) ≡ none
   unfolding loaded_numbers before state_from
-  above_none end (misread j) = refl
-  above_none end (numbers vs next) = go (eqb next end) refl
+  above_none end (Err f) = refl
+  above_none end (Ok (vs, next)) = go (eqb next end) refl
     where
-      go : (b : Bool) → eqb next end ≡ b → loaded_numbers most end (numbers (c ∷ (n ∷ vs)) next) ≡ none
+      go : (b : Bool) → eqb next end ≡ b → loaded_numbers most end (Ok (c ∷ (n ∷ vs), next)) ≡ none
       go true e = rw (e, loaded_numbers, none_above most c n h, state_from)
       go false e = rw (e, loaded_numbers)
 
@@ -123,9 +123,9 @@ read_place : (most : ℕ) (bytes : List ℕ) {S : State} → loaded_up_to most b
 unfolding loaded_up_to loaded_numbers bad_place place_in
 read_place most bytes {S} = go (numbers_in bytes)
   where
-    go : (x : Numbers) → loaded_numbers most (length bytes) x ≡ some S → place_in (length bytes) x ≡ length bytes
-    go (misread j) e = let z : ◌≡◌ {A = ℕ} 0 1 = cc in absurd (omega arith)
-    go (numbers vs next) e = refl
+    go : (x : Reading (List ℕ)) → loaded_numbers most (length bytes) x ≡ some S → place_in (length bytes) x ≡ length bytes
+    go (Err f) e = let z : ◌≡◌ {A = ℕ} 0 1 = cc in absurd (omega arith)
+    go (Ok (vs, next)) e = refl
 
 -- "A saved form written before reads as it did."
 pub read_as_before : (bytes : List ℕ) {S : State} → loaded_up_to most_before bytes ≡ some S → loaded bytes ≡ some S
