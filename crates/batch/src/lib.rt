@@ -7,8 +7,8 @@ ghost use Rattle.encoding.specs.Batch.{batch};
 ghost use Rattle.batch.specs.Operated.{perform_on, put_answer};
 ghost use Rattle.batch.specs.Ready.{Ready};
 
-use commands::{Scanned, command_at, scan};
-use encoding::{Command, Operation, Reading};
+use commands::{command_at, scan};
+use encoding::{Command, Operation};
 use format::{Header, Performed};
 use pool::audit;
 use slots::{get_header, length_good, put_header, put_word};
@@ -71,7 +71,7 @@ fn run(pool: &mut [u32], h: Header, bytes: &[u8], answers: &mut [u32])
     let mut at: usize = 0;
     let mut place: usize = 0;
     while at < bytes.len() {
-        let Reading::Next(c, next) = command_at(bytes, at) else {
+        let Ok((c, next)) = command_at(bytes, at) else {
             return;
         };
         let done = perform(pool, left, c);
@@ -115,11 +115,11 @@ pub fn batch(pool: &mut [u32], bytes: &[u8], answers: &mut [u32]) -> Called
     }
     let found = scan(bytes);
     match found {
-        Scanned::BadAt(place) => {
-            let byte = place as u32;
+        Err(fault) => {
+            let byte = fault.place as u32;
             refuse(Refusal::BadCommand(byte))
         }
-        Scanned::Commands(count) => {
+        Ok(count) => {
             if answers.len() < ANSWER_WORDS * count {
                 return refuse(Refusal::FewAnswers);
             }

@@ -1,11 +1,10 @@
 -- What the reader's private functions that judge say of the bytes: sound and complete at once. No public contract cites this page;
 -- it serves RULES 16.
-use Rattle.std.specs.Prelude.{◌≡◌, true, List, length, ℕ, ◌+◌, ◌≤◌}
+use Rattle.std.specs.Prelude.{◌≡◌, true, List, length, ℕ, ◌+◌, ◌≤◌, Ok}
 use Rattle.std.proofs.Math.Option.{none}
 use Rattle.tree.specs.Codes.{most_slots}
 use Rattle.tree.specs.Tree.{Tree, size, depth, level, Ordered, Chromatic}
 use Rattle.tree.specs.State.{Top, nodes, level_top, GoodTop}
-use Rattle.encoding.specs.declared.Number.TheVariants.{Read}
 use Rattle.encoding.specs.Numbers.{number}
 use Rattle.pool.specs.declared.Walk.{Walk}
 use Rattle.pool.specs.declared.Walk.TheVariants.{Bad, Whole}
@@ -57,8 +56,8 @@ TopSays bytes i n (Level l) = (t : Top) × FoundTop bytes i n t × (l ≡ level_
 pub record Loads (bytes : List ℕ) (c n l at : ℕ) : Type 0 where
   pub count_from : ℕ
   pub top : Top
-  pub slots_there : number bytes 0 ≡ Read c count_from
-  pub count_there : number bytes count_from ≡ Read n at
+  pub slots_there : number bytes 0 ≡ Ok (c, count_from)
+  pub count_there : number bytes count_from ≡ Ok (n, at)
   pub found : FoundTop bytes at n top
   pub level_is : l ≡ level_top top
   pub counts : is_count most_slots c n ≡ true

@@ -4,8 +4,8 @@ use Rattle.tree.specs.declared.Refusal.TheVariants.{BadCommand}
 use Rattle.batch.proofs.CallTests.{call_refuses, finds_bad}
 use Rattle.batch.proofs.batch.Goals as goal
 
-pub returns-in-BadAt : goal.returns-in-BadAt
-returns-in-BadAt c =
-    let bad = finds_bad _ _ c.scan-found.ensures c.args.pool.now c.args.answers.now (sym c.if-not-length_good.ensures) _ c.in-BadAt.is in
-    let t = call_refuses (BadCommand _) _ _ _ bad (c.refuse-in-BadAt.ensures.code, c.refuse-in-BadAt.ensures.number) in
+pub returns-in-Err : goal.returns-in-Err
+returns-in-Err c =
+    let bad = finds_bad _ _ c.scan-found.ensures c.args.pool.now c.args.answers.now (sym c.if-not-length_good.ensures) _ c.in-Err.is in
+    let t = call_refuses (BadCommand _) _ _ _ bad (c.refuse-in-Err.ensures.code, c.refuse-in-Err.ensures.number) in
     record { code = t.0; number = t.1.0; pool = t.1.1.0; answers = t.1.1.1 }
