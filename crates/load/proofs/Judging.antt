@@ -15,7 +15,8 @@ use Rattle.format.specs.declared.Slot.{Slot}
 use Rattle.format.specs.Words.{slot}
 use Rattle.std.specs.Prelude.{Ok, Err}
 use Rattle.encoding.specs.Numbers.{number}
-use Rattle.pool.specs.declared.Walk.{Walk}
+use Rattle.std.specs.Prelude.{Option}
+use Rattle.pool.specs.declared.Whole.{Whole}
 use Rattle.pool.specs.Walks.{most_sum}
 use Rattle.pool.specs.Visits.{leaf_test, leaf_walk, join_test, join_walk}
 use Rattle.pool.proofs.Tours.{LeafFine, leaf_facts, leaf_test_lem, leaf_good, leaf_bad, JoinFine, join_facts, join_test_lem, join_good, join_bad}
@@ -65,7 +66,7 @@ module _ (bytes : List ℕ) (at lo hi left most : ℕ) {a i k j : ℕ} (first : 
       let l = rw P.tree_is at fits.low in
       record { bare = refl; not_red = omega arith; low = omega arith; from = o.0; below = o.1 }
 
-  pub judge_leaf : a % 2 ≡ 0 → {r : Walk} → r ≡ leaf_walk (slot k 0 0 (a / 2)) lo hi (most - 1) → JudgeSays bytes at lo hi left most j r
+  pub judge_leaf : a % 2 ≡ 0 → {r : Option Whole} → r ≡ leaf_walk (slot k 0 0 (a / 2)) lo hi (most - 1) → JudgeSays bytes at lo hi left most j r
   unfolding Ordered Chromatic level size depth
   judge_leaf even {r} e = rw e (go (leaf_test c lo hi) refl)
     where
@@ -168,7 +169,7 @@ module _ (bytes : List ℕ) (at lo hi left most : ℕ) {a i k j : ℕ} (first : 
             record { same_sum = omega (arith, L.same_sum, S.weight_same, alike_level S.tree_same, B.sum_is); low = L.low }
 
         -- Both were found, just as they are asked for.
-        pub judge_join : x ≡ lo → y ≡ most - 1 → z ≡ more → {r : Walk} → r ≡ join_walk (a / 2) rest al bl → JudgeSays bytes at lo hi left most end r
+        pub judge_join : x ≡ lo → y ≡ most - 1 → z ≡ more → {r : Option Whole} → r ≡ join_walk (a / 2) rest al bl → JudgeSays bytes at lo hi left most end r
         unfolding Ordered Chromatic level size depth
         judge_join from same same-2 {r} e = rw e (go (join_test (a / 2) al bl) refl)
           where
