@@ -13,7 +13,8 @@ use Rattle.format.specs.Audit.{state_of}
 use Rattle.format.specs.Shows.{Shows}
 use Rattle.format.proofs.Shown.{written_decided}
 use Rattle.encoding.specs.declared.Command.{Command}
-use Rattle.encoding.specs.declared.Reading.TheVariants.{Next, Fault}
+use Rattle.std.specs.Prelude.{Ok, Err}
+use Rattle.encoding.specs.declared.Fault.{Fault}
 use Rattle.encoding.specs.Batch.{most_commands, command_at, perform, answers_of, run_all, Call, called, batch}
 use Rattle.encoding.proofs.Endings.{ran_ends}
 use Rattle.encoding.proofs.Performs.{perform_sound}
@@ -59,14 +60,14 @@ turn_starts {h} {p} {bytes} {out} r =
     }
 
 module _ {bytes : List ℕ} {k : Call} {h : Header} {p out : List ℕ} {at place : ℕ} (w : Turn bytes k h p out at place) where
-  pub turn_fault : {j : ℕ} → at < length bytes → command_at bytes at ≡ Fault j → ⊥
+  pub turn_fault : {f : Fault} → at < length bytes → command_at bytes at ≡ Err f → ⊥
   turn_fault l e = running_fault w.running l e
 
   -- two more answer words, of at most 512
   pub turn_place : at < length bytes → place + 2 ≤ 2 * most_commands
   turn_place l = omega (arith, w.place_is, w.few, (running_more w.running).0 l)
 
-  pub turn_good : (c : Command) (next : ℕ) → at < length bytes → command_at bytes at ≡ Next c next → c.first < key_end
+  pub turn_good : (c : Command) (next : ℕ) → at < length bytes → command_at bytes at ≡ Ok (c, next) → c.first < key_end
       → (a : Answer) (g : Header) (q : List ℕ) → a ≡ (perform_on c p h).result.answer → g ≡ (perform_on c p h).result.header → q ≡ (perform_on c p h).words
       → Turn bytes k g q (put_answer out place a) next (place + 2)
   unfolding run_all answers_of put_answers

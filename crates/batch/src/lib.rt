@@ -7,8 +7,8 @@ ghost use Rattle.batch.specs.Answered.{call_code, call_number};
 ghost use Rattle.batch.specs.Operated.{perform_on, put_answer};
 ghost use Rattle.batch.specs.Ready.{Ready};
 
-use commands::{Scanned, command_at, scan};
-use encoding::{Command, Operation, Reading};
+use commands::{command_at, scan};
+use encoding::{Command, Operation};
 use format::Header;
 use pool::audit;
 use slots::{get_header, length_good, put_header, put_word};
@@ -61,7 +61,7 @@ fn run(pool: &mut [u32], mut h: Header, bytes: &[u8], answers: &mut [u32])
     let mut at: usize = 0;
     let mut place: usize = 0;
     while at < bytes.len() {
-        let Reading::Next(c, next) = command_at(bytes, at) else {
+        let Ok((c, next)) = command_at(bytes, at) else {
             return;
         };
         let answer = perform(pool, &mut h, c);
@@ -85,8 +85,8 @@ pub fn batch(pool: &mut [u32], bytes: &[u8], answers: &mut [u32]) -> Result<(), 
         return Err(Refusal::PoolLength);
     }
     let count = match scan(bytes) {
-        Scanned::BadAt(place) => return Err(Refusal::BadCommand(place as u32)),
-        Scanned::Commands(count) => count,
+        Ok(count) => count,
+        Err(fault) => return Err(Refusal::BadCommand(fault.place as u32)),
     };
     if answers.len() < ANSWER_WORDS * count {
         return Err(Refusal::FewAnswers);

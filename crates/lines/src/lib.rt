@@ -6,7 +6,7 @@ ghost use Rattle.std.proofs.lemmas.List.Edits.{sets};
 ghost use Rattle.encoding.specs.Batch.{most_commands, read_batch};
 ghost use Rattle.lines.specs.Printed.{digits, line, line_bytes, lines, refused_line, how_many, printed};
 
-use commands::{MOST_COMMANDS, Scanned, scan};
+use commands::{MOST_COMMANDS, scan};
 use pool::prepare;
 use slots::word;
 use tree::Answer;
@@ -104,16 +104,12 @@ fn put_lines(out: &mut [u8], answers: &[u32], count: usize) -> usize
     at
 }
 
-#[tactic(auto, using(crate::proofs::Batches::counted, crate::proofs::Batches::none_counted))]
+#[tactic(auto, using(crate::proofs::Batches::few, crate::proofs::Batches::counted))]
 fn commands_in(bytes: &[u8]) -> usize
     ensures few { result ≤ most_commands }
     ensures count { result ≡ how_many (read_batch bytes.now) }
 {
-    let found = scan(bytes);
-    match found {
-        Scanned::Commands(count) => count,
-        Scanned::BadAt(_) => 0,
-    }
+    scan(bytes).unwrap_or(0)
 }
 
 // 01: "The program prepares 127 slots [..] and prints per command one line". The bytes after what is printed stay as they were.

@@ -13,13 +13,15 @@ use Rattle.tree.specs.Codes.{most_slots}
 use Rattle.tree.specs.Tree.{Tree, size}
 use Rattle.tree.specs.State.{State, Top, empty, full, nodes, level_top, key_end, Good, GoodTop, Sound}
 use Rattle.tree.proofs.Depth.{depth_half}
-use Rattle.encoding.specs.declared.Number.TheVariants.{Read, Wrong}
+use Rattle.std.specs.Prelude.{Ok, Err}
 use Rattle.encoding.specs.Numbers.{Bytes, number}
+use Rattle.encoding.specs.declared.Fault.{Fault}
+use Rattle.encoding.proofs.Readings.{one_read, not_wrong}
 use Rattle.saved.specs.Loaded.{is_count, loaded}
 use Rattle.saved.specs.There.{TreeAt, TopAt, none_at, tree_at, SavedAt}
 use Rattle.saved.proofs.Alike.{alike_size}
 use Rattle.saved.proofs.States.{size_pos, sound_count, count_parts}
-use Rattle.saved.proofs.There.{one_read, not_wrong, one_tree}
+use Rattle.saved.proofs.There.{one_tree}
 use Rattle.saved.proofs.Saves.{none_there}
 use Rattle.load.specs.declared.JudgedTop.TheVariants.{NotGood, Level}
 use Rattle.load.specs.Judging.{Fits, Found, NoneFound, FoundTop, TopSays, Loads}
@@ -67,10 +69,10 @@ module _ (bytes : List ℕ) (at n : ℕ) where
     top_none f e = (empty, record { there = rw (← eqb-true at (length bytes) f) none_at; good = tt; nodes_are = sym no_nodes }, e)
 
   module _ (some-nodes : n ≢ 0) where
-    pub top_cut : {j : ℕ} → number bytes at ≡ Wrong j → TopSays bytes at n NotGood
+    pub top_cut : {f : Fault} → number bytes at ≡ Err f → TopSays bytes at n NotGood
     top_cut e t found = not_wrong (first_number_lem (top_tree t found some-nodes).there).reads e
 
-    module _ {a i : ℕ} (first : number bytes at ≡ Read a i) where
+    module _ {a i : ℕ} (first : number bytes at ≡ Ok (a, i)) where
       pub top_weight : a / 2 ≢ 1 → TopSays bytes at n NotGood
       top_weight z t found =
           let F = first_number_lem (top_tree t found some-nodes).there in z (omega (arith, F.weight_is, (one_read F.reads first).0))
@@ -125,14 +127,14 @@ module _ (c n : ℕ) where
 
 -- What judge_all answers: nothing where no sound State stands in the bytes.
 module _ (bytes : List ℕ) (b : Bytes bytes) where
-  pub no_slots : {j : ℕ} → number bytes 0 ≡ Wrong j → loaded bytes ≡ none
+  pub no_slots : {f : Fault} → number bytes 0 ≡ Err f → loaded bytes ≡ none
   no_slots e = none_there bytes b (λ S sound there. not_wrong there.slots_there e)
 
-  module _ {c i : ℕ} (slots : number bytes 0 ≡ Read c i) where
-    pub no_nodes : {j : ℕ} → number bytes i ≡ Wrong j → loaded bytes ≡ none
+  module _ {c i : ℕ} (slots : number bytes 0 ≡ Ok (c, i)) where
+    pub no_nodes : {f : Fault} → number bytes i ≡ Err f → loaded bytes ≡ none
     no_nodes e = none_there bytes b (λ S sound there. not_wrong (rw (one_read there.slots_there slots).1 at there.count_there) e)
 
-    module _ {n at : ℕ} (count : number bytes i ≡ Read n at) where
+    module _ {n at : ℕ} (count : number bytes i ≡ Ok (n, at)) where
       -- what a sound State that stands there has
       record Has (S : State) : Type 0 where
         pub slots_are : S.slots ≡ c

@@ -1,14 +1,12 @@
 -- What the reader's private functions that judge say of the bytes: sound and complete at once. No public contract cites this page;
 -- it serves RULES 16.
-use Rattle.std.specs.Prelude.{◌≡◌, true, List, length, ℕ, ◌+◌, ◌≤◌}
+use Rattle.std.specs.Prelude.{◌≡◌, true, List, length, ℕ, ◌+◌, ◌≤◌, Ok, Option, Some, None}
 use Rattle.std.proofs.Math.Option.{none}
 use Rattle.tree.specs.Codes.{most_slots}
 use Rattle.tree.specs.Tree.{Tree, size, depth, level, Ordered, Chromatic}
 use Rattle.tree.specs.State.{Top, nodes, level_top, GoodTop}
-use Rattle.encoding.specs.declared.Number.TheVariants.{Read}
 use Rattle.encoding.specs.Numbers.{number}
-use Rattle.pool.specs.declared.Walk.{Walk}
-use Rattle.pool.specs.declared.Walk.TheVariants.{Bad, Whole}
+use Rattle.pool.specs.declared.Whole.{Whole}
 use Rattle.pool.specs.Walks.{most_sum}
 use Rattle.saved.specs.Loaded.{is_count, loaded}
 use Rattle.saved.specs.There.{TreeAt, TopAt}
@@ -38,9 +36,9 @@ pub record Found (bytes : List ℕ) (i lo hi left most j rest l : ℕ) : Type 0 
 abbrev pub NoneFound : List ℕ → ℕ → ℕ → ℕ → ℕ → ℕ → Type 0
 NoneFound bytes i lo hi left most = (w : ℕ) (t : Tree) (j : ℕ) → TreeAt bytes i w t j → Fits lo hi left w t → size t ≤ most → ⊥
 
-abbrev pub JudgeSays : List ℕ → ℕ → ℕ → ℕ → ℕ → ℕ → ℕ → Walk → Type 0
-JudgeSays bytes i lo hi left most next Bad = NoneFound bytes i lo hi left most
-JudgeSays bytes i lo hi left most next (Whole rest l) = Found bytes i lo hi left most next rest l
+abbrev pub JudgeSays : List ℕ → ℕ → ℕ → ℕ → ℕ → ℕ → ℕ → Option Whole → Type 0
+JudgeSays bytes i lo hi left most next None = NoneFound bytes i lo hi left most
+JudgeSays bytes i lo hi left most next (Some f) = Found bytes i lo hi left most next f.rest f.sum
 
 -- a whole good set of n nodes, from place i to the end of the bytes
 pub record FoundTop (bytes : List ℕ) (i n : ℕ) (t : Top) : Type 0 where
@@ -57,8 +55,8 @@ TopSays bytes i n (Level l) = (t : Top) × FoundTop bytes i n t × (l ≡ level_
 pub record Loads (bytes : List ℕ) (c n l at : ℕ) : Type 0 where
   pub count_from : ℕ
   pub top : Top
-  pub slots_there : number bytes 0 ≡ Read c count_from
-  pub count_there : number bytes count_from ≡ Read n at
+  pub slots_there : number bytes 0 ≡ Ok (c, count_from)
+  pub count_there : number bytes count_from ≡ Ok (n, at)
   pub found : FoundTop bytes at n top
   pub level_is : l ≡ level_top top
   pub counts : is_count most_slots c n ≡ true

@@ -1,20 +1,19 @@
 // 02 (i), the reader of the saved form. All bytes are judged before the first word is written: "The reader's pool may hold any words."
 #![tactic(auto)]
 
-ghost use Rattle.std.specs.Prelude.{◌≡◌, eqb, length, ◌+◌, ◌-◌, ◌^◌, ◌≤◌, ◌<◌, min};
+ghost use Rattle.std.specs.Prelude.{◌≡◌, None, eqb, length, ◌+◌, ◌-◌, ◌^◌, ◌≤◌, ◌<◌, min};
 ghost use Rattle.tree.specs.Codes.{most_slots};
 ghost use Rattle.tree.specs.State.{upwards};
 ghost use Rattle.format.specs.Words.{head_of};
 ghost use Rattle.saved.specs.Loaded.{numbers_at, is_count, place_in, bad_place};
 ghost use Rattle.saved.specs.Calls.{place_word, load_call};
-ghost use Rattle.pool.specs.declared.Walk.TheVariants.{Bad};
 ghost use Rattle.load.specs.Judging.{JudgeSays, TopSays, WholeSays};
 ghost use Rattle.load.specs.Building.{Buildable, BuildSays, TopBuildable, TopBuildSays, AllBuildSays, put_up};
 
 use encoding::Number;
 use format::{Header, Slot};
 use numbers::number;
-use pool::{KEY_END, ROOT_WEIGHT, Walk, join, walk_leaf};
+use pool::{KEY_END, ROOT_WEIGHT, Whole, join, walk_leaf};
 use slots::{free_slot, last_slot, length_good, put_header, put_slot};
 use tree::{Answer, MOST_SLOTS, Refusal};
 
@@ -26,15 +25,15 @@ const LAST_WORD: u32 = 4294967295;
 // What is found of a tree in the bytes: what a walk over a pool's tree would find, and the place after its numbers.
 #[derive(Clone, Copy)]
 struct Judged {
-    walk: Walk,
+    walk: Option<Whole>,
     next: usize,
 }
 
 fn fault() -> Judged
-    ensures { result.walk ≡ Bad }
+    ensures { result.walk ≡ None }
 {
     Judged {
-        walk: Walk::Bad,
+        walk: None,
         next: 0,
     }
 }
@@ -71,16 +70,16 @@ fn judge(bytes: &[u8], at: usize, lo: u64, hi: u64, left: u32, most: u32) -> Jud
     let mid = k as u64 + 1;
     let l = judge(bytes, j, lo, mid, left - 1, most - 1);
     let on_left = l.walk;
-    let Walk::Whole(more, al) = on_left else {
+    let Some(al) = on_left else {
         return fault();
     };
-    let r = judge(bytes, l.next, mid, hi, left - 1, more);
+    let r = judge(bytes, l.next, mid, hi, left - 1, al.rest);
     let on_right = r.walk;
-    let Walk::Whole(rest, bl) = on_right else {
+    let Some(bl) = on_right else {
         return fault();
     };
     Judged {
-        walk: join(a / TWICE, rest, al, bl),
+        walk: join(a / TWICE, bl.rest, al.sum, bl.sum),
         next: r.next,
     }
 }
@@ -123,16 +122,16 @@ fn judge_top(bytes: &[u8], at: usize, n: u32) -> JudgedTop
     }
     let t = judge(bytes, at, 0, KEY_END, (n + 1) / 2, n);
     let whole = t.walk;
-    let Walk::Whole(rest, sum) = whole else {
+    let Some(tree) = whole else {
         return JudgedTop::NotGood;
     };
-    if rest != 0 {
+    if tree.rest != 0 {
         return JudgedTop::NotGood;
     }
     if !ends(bytes, t.next) {
         return JudgedTop::NotGood;
     }
-    JudgedTop::Level(sum - ROOT_WEIGHT)
+    JudgedTop::Level(tree.sum - ROOT_WEIGHT)
 }
 
 // C is from 1 to MOST_SLOTS, N at most C.

@@ -7,7 +7,7 @@ ghost use Rattle.std.proofs.lemmas.List.Edits.{sets};
 ghost use Rattle.encoding.specs.Numbers.{number, groups, below};
 ghost use Rattle.numbers.specs.Shortest.{bytes_of};
 
-use encoding::Number;
+use encoding::{Fault, Reading};
 
 // A byte below this is a last group; each group counts this many times as much as the one below it.
 const GROUP: u32 = 128;
@@ -19,22 +19,22 @@ const MOST_FIFTH: u32 = 15;
 
 // The number at place `at`. Most are one byte long.
 #[tactic(auto, using(crate::proofs::Groups::ended, crate::proofs::Groups::read_last, crate::proofs::Groups::more), unfolding(encoding::specs::Numbers::number))]
-pub fn number(bytes: &[u8], at: usize) -> Number
+pub fn number(bytes: &[u8], at: usize) -> Reading<u32>
     ensures { result ≡ number bytes.now at }
 {
     if bytes.len() <= at {
-        return Number::Wrong(bytes.len());
+        return Err(Fault { place: bytes.len() });
     }
     let byte = bytes[at] as u32;
     if byte < GROUP {
-        return Number::Read(byte, at + 1);
+        return Ok((byte, at + 1));
     }
     further(bytes, at + 1, byte - GROUP)
 }
 
 // The number with `low` as its lowest group and the others from place `from` on.
 #[tactic(auto, using(crate::proofs::Groups::ended, crate::proofs::Groups::large, crate::proofs::Groups::padded, crate::proofs::Groups::read_last, crate::proofs::Ahead::answer, crate::proofs::Ahead::most, crate::proofs::Ahead::fits, crate::proofs::Ahead::ahead, crate::proofs::Ahead::below_above))]
-fn further(bytes: &[u8], from: usize, low: u32) -> Number
+fn further(bytes: &[u8], from: usize, low: u32) -> Reading<u32>
     requires { low < 128 }
     ensures { result ≡ below low (groups 3 false bytes.now from) }
 {
@@ -44,14 +44,14 @@ fn further(bytes: &[u8], from: usize, low: u32) -> Number
     let mut i = from;
     while 0 < more {
         if bytes.len() <= i {
-            return Number::Wrong(bytes.len());
+            return Err(Fault { place: bytes.len() });
         }
         let byte = bytes[i] as u32;
         if byte < GROUP {
             if byte == 0 {
-                return Number::Wrong(i);
+                return Err(Fault { place: i });
             }
-            return Number::Read(value + unit * byte, i + 1);
+            return Ok((value + unit * byte, i + 1));
         }
         value = value + unit * (byte - GROUP);
         unit = unit * GROUP;
@@ -59,16 +59,16 @@ fn further(bytes: &[u8], from: usize, low: u32) -> Number
         i = i + 1;
     }
     if bytes.len() <= i {
-        return Number::Wrong(bytes.len());
+        return Err(Fault { place: bytes.len() });
     }
     let fifth = bytes[i] as u32;
     if fifth == 0 {
-        return Number::Wrong(i);
+        return Err(Fault { place: i });
     }
     if fifth <= MOST_FIFTH {
-        return Number::Read(value + unit * fifth, i + 1);
+        return Ok((value + unit * fifth, i + 1));
     }
-    Number::Wrong(i)
+    Err(Fault { place: i })
 }
 
 // From here on a number takes two bytes, three, four, five.

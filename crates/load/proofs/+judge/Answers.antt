@@ -20,10 +20,10 @@ returns-in_default-on_left t c =
 
 pub returns-in_default-on_right : goal.returns-in_default-on_right
 returns-in_default-on_right t c =
-    let A = rw c.in-Whole.is at c.judge-l.ensures in
+    let A = rw c.in-Some.is at c.judge-l.ensures in
     rw c.fault-in_default-on_right.ensures
     (judge_right _ _ _ _ _ _ (sym c.in-Read.ensures) (sym c.in-Read-number.ensures) c.if-left-lt1.false c.if-most-lt1.false c.if-a-eq0.false A _ (omega arith) (omega (arith, A.nodes_are)) (rw c.in_default-on_right.is at c.judge-r.ensures))
 
 pub returns : goal.returns
 returns t c =
-    judge_join _ _ _ _ _ _ (sym c.in-Read.ensures) (sym c.in-Read-number.ensures) c.if-left-lt1.false c.if-most-lt1.false c.if-a-eq0.false (rw c.in-Whole.is at c.judge-l.ensures) (rw c.in-Whole-on_right.is at c.judge-r.ensures) (omega arith) (omega arith) (omega arith) c.join.ensures
+    judge_join _ _ _ _ _ _ (sym c.in-Read.ensures) (sym c.in-Read-number.ensures) c.if-left-lt1.false c.if-most-lt1.false c.if-a-eq0.false (rw c.in-Some.is at c.judge-l.ensures) (rw c.in-Some-on_right.is at c.judge-r.ensures) (omega arith) (omega arith) (omega arith) c.join.ensures

@@ -5,4 +5,4 @@ use Rattle.load.proofs.judge_top.Goals as goal
 
 pub returns : goal.returns
 returns c =
-    top_whole _ _ _ c.if-n-eq0.false (sym c.in-Read.ensures) (rw c.in-Whole.is at c.judge-t.ensures) (omega arith) (omega arith) (sym c.if-not-ends-2.ensures) (omega arith)
+    top_whole _ _ _ c.if-n-eq0.false (sym c.in-Read.ensures) (rw c.in-Some.is at c.judge-t.ensures) (omega arith) (omega arith) (sym c.if-not-ends-2.ensures) (omega arith)
