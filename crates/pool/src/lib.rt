@@ -55,12 +55,12 @@ pub fn allowance(pool: &[u32]) -> u32
     (last_slot(pool) + 1) / 2
 }
 
-// What a walk over a tree finds: a fault; or how many of the nodes that it may have are left over, and what the weights from the edge
-// above it down to each leaf add up to.
+// What a walk over a tree finds where there is no fault: how many of the nodes that it may have are left over, and what the weights from
+// the edge above it down to each leaf add up to.
 #[derive(Clone, Copy)]
-pub enum Walk {
-    Bad,
-    Whole(u32, u32),
+pub struct Whole {
+    pub rest: u32,
+    pub sum: u32,
 }
 
 // The largest such sum: L, and the weight of the root, which counts in nothing and is taken off at the end.
@@ -69,88 +69,91 @@ const MOST_SUM: u32 = MOST_LEVEL + ROOT_WEIGHT;
 // A slot whose left is 0, as a leaf with its key from lo to below hi. This and `join` are the rules of a tree's leaves and nodes, for the
 // audit's walk and for the reader of the saved form.
 #[tactic(auto, using(crate::proofs::Tours::leaf_good, crate::proofs::Tours::leaf_bad))]
-pub fn walk_leaf(c: Slot, lo: u64, hi: u64, rest: u32) -> Walk
+pub fn walk_leaf(c: Slot, lo: u64, hi: u64, rest: u32) -> Option<Whole>
     ensures { result ≡ leaf_walk c lo hi rest }
 {
     if c.right != 0 {
-        return Walk::Bad;
+        return None;
     }
     if c.weight < 1 {
-        return Walk::Bad;
+        return None;
     }
     if MOST_SUM < c.weight {
-        return Walk::Bad;
+        return None;
     }
     if (c.key as u64) < lo {
-        return Walk::Bad;
+        return None;
     }
     if hi <= c.key as u64 {
-        return Walk::Bad;
+        return None;
     }
-    Walk::Whole(rest, c.weight)
+    Some(Whole {
+        rest,
+        sum: c.weight,
+    })
 }
 
 // An edge of weight w to an inner node, whose subtrees have the sums al and bl.
 #[tactic(auto, using(crate::proofs::Tours::join_good, crate::proofs::Tours::join_bad))]
-pub fn join(w: u32, rest: u32, al: u32, bl: u32) -> Walk
+pub fn join(w: u32, rest: u32, al: u32, bl: u32) -> Option<Whole>
     ensures { result ≡ join_walk w rest al bl }
 {
     if al != bl {
-        return Walk::Bad;
+        return None;
     }
     let sum = w as u64 + al as u64;
     if (MOST_SUM as u64) < sum {
-        return Walk::Bad;
+        return None;
     }
-    Walk::Whole(rest, sum as u32)
+    Some(Whole {
+        rest,
+        sum: sum as u32,
+    })
 }
 
 // The tree at slot s, its keys from lo to below hi, at most `left` nodes deep, of at most `most` nodes. A right side may have the nodes
 // that its left side left over, and the first fault ends the walk: at most most + 1 calls in all, on any words (`tree_visits` in
 // proofs/Visits.antt).
 #[tactic(auto, using(crate::proofs::Tours::tour_deep, crate::proofs::Tours::tour_many, crate::proofs::Tours::tour_outside, crate::proofs::Tours::tour_leaf, crate::proofs::Tours::tour_inner, crate::proofs::Tours::inner_left, crate::proofs::Tours::inner_right, crate::proofs::Tours::inner_both))]
-fn walk_tree(pool: &[u32], s: u32, lo: u64, hi: u64, left: u32, most: u32) -> Walk
+fn walk_tree(pool: &[u32], s: u32, lo: u64, hi: u64, left: u32, most: u32) -> Option<Whole>
     ensures { result ≡ (tree_tour left pool.now s lo hi most).answer }
 {
     if left < 1 {
-        return Walk::Bad;
+        return None;
     }
     if most < 1 {
-        return Walk::Bad;
+        return None;
     }
     if !is_slot(pool, s) {
-        return Walk::Bad;
+        return None;
     }
     let c = get_slot(pool, s);
     if c.left == 0 {
         return walk_leaf(c, lo, hi, most - 1);
     }
     let mid = c.key as u64 + 1;
-    let Walk::Whole(more, al) = walk_tree(pool, c.left, lo, mid, left - 1, most - 1) else {
-        return Walk::Bad;
-    };
-    let Walk::Whole(rest, bl) = walk_tree(pool, c.right, mid, hi, left - 1, more) else {
-        return Walk::Bad;
-    };
-    join(c.weight, rest, al, bl)
+    let l = walk_tree(pool, c.left, lo, mid, left - 1, most - 1)?;
+    let r = walk_tree(pool, c.right, mid, hi, left - 1, l.rest)?;
+    join(c.weight, r.rest, l.sum, r.sum)
 }
 
 // The whole tree, none where the root is 0: the nodes left over, and L.
 #[tactic(auto, using(crate::proofs::Tours::top_none, crate::proofs::Tours::top_weight, crate::proofs::Tours::top_tree, crate::proofs::Visits::sum_from_weight))]
-fn walk_top(pool: &[u32], root: u32, left: u32, most: u32) -> Walk
+fn walk_top(pool: &[u32], root: u32, left: u32, most: u32) -> Option<Whole>
     ensures { result ≡ (top_tour pool.now root left most).answer }
 {
     if root == 0 {
-        return Walk::Whole(most, 0);
+        return Some(Whole { rest: most, sum: 0 });
     }
     let c = get_slot(pool, root);
     if c.weight != ROOT_WEIGHT {
-        return Walk::Bad;
+        return None;
     }
-    let Walk::Whole(rest, l) = walk_tree(pool, root, 0, KEY_END, left, most) else {
-        return Walk::Bad;
-    };
-    Walk::Whole(rest, l - ROOT_WEIGHT)
+    let t = walk_tree(pool, root, 0, KEY_END, left, most)?;
+    Some(Whole {
+        rest: t.rest,
+        sum: t.sum - ROOT_WEIGHT,
+    })
 }
 
 #[tactic(auto, using(format::proofs::Slots::slot_eq))]
@@ -210,13 +213,13 @@ pub fn examine(pool: &[u32]) -> Audited
     if !walk_chain(pool, h.free, slots - h.nodes) {
         return Audited::Broken;
     }
-    let Walk::Whole(rest, l) = walk_top(pool, h.root, allowance(pool), h.nodes) else {
+    let Some(top) = walk_top(pool, h.root, allowance(pool), h.nodes) else {
         return Audited::Broken;
     };
-    if rest != 0 {
+    if top.rest != 0 {
         return Audited::Broken;
     }
-    if l != h.level {
+    if top.sum != h.level {
         return Audited::Broken;
     }
     Audited::Passed(h)

@@ -38,31 +38,31 @@ returns-in_default c =
     let tree = rw (c.get_header-h.ensures, c.allowance.ensures) at c.in_default.ensures in
     told _ (λ i. omega (arith, c.type_inv.pool i)) (whole _ (sym c.if-not-length_good.ensures) few chain ∙ ap (counted _) (sym tree))
 
-pub returns-then-rest-ne0 : goal.returns-then-rest-ne0
-returns-then-rest-ne0 c =
+pub returns-then-top-ne0 : goal.returns-then-top-ne0
+returns-then-top-ne0 c =
     let few = rw (c.get_header-h.ensures, c.slots_in-slots.ensures) at c.if-slots-h.false in
     let chain = rw (c.get_header-h.ensures, c.slots_in-slots.ensures) at c.if-not-walk_chain.ensures in
-    let tree = rw (c.get_header-h.ensures, c.allowance.ensures) at c.in-Whole.ensures in
+    let tree = rw (c.get_header-h.ensures, c.allowance.ensures) at c.in-Some.ensures in
     told _ (λ i. omega (arith, c.type_inv.pool i))
-    (whole _ (sym c.if-not-length_good.ensures) few chain ∙ (ap (counted _) (sym tree) ∙ counted_other _ _ _ c.if-rest-ne0.true))
+    (whole _ (sym c.if-not-length_good.ensures) few chain ∙ (ap (counted _) (sym tree) ∙ counted_other _ _ c.if-top-ne0.true))
 
-pub returns-then-l-h : goal.returns-then-l-h
-returns-then-l-h c =
+pub returns-then-top-h : goal.returns-then-top-h
+returns-then-top-h c =
     let few = rw (c.get_header-h.ensures, c.slots_in-slots.ensures) at c.if-slots-h.false in
     let chain = rw (c.get_header-h.ensures, c.slots_in-slots.ensures) at c.if-not-walk_chain.ensures in
-    let tree = rw (c.get_header-h.ensures, c.allowance.ensures) at c.in-Whole.ensures in
-    let other = rw (c.get_header-h.ensures) at c.if-l-h.true in
+    let tree = rw (c.get_header-h.ensures, c.allowance.ensures) at c.in-Some.ensures in
+    let other = rw (c.get_header-h.ensures) at c.if-top-h.true in
     told _ (λ i. omega (arith, c.type_inv.pool i))
-    (whole _ (sym c.if-not-length_good.ensures) few chain ∙ (ap (counted _) (sym tree) ∙ counted_level _ _ _ other))
+    (whole _ (sym c.if-not-length_good.ensures) few chain ∙ (ap (counted _) (sym tree) ∙ counted_level _ _ other))
 
 pub returns : goal.returns
 returns c =
     let few = rw (c.get_header-h.ensures, c.slots_in-slots.ensures) at c.if-slots-h.false in
     let chain = rw (c.get_header-h.ensures, c.slots_in-slots.ensures) at c.if-not-walk_chain.ensures in
-    let tree = rw (c.get_header-h.ensures, c.allowance.ensures) at c.in-Whole.ensures in
-    let level : c.in-Whole.l ≡ c.get_header-h.result.level = omega arith in
-    let none : c.in-Whole.rest ≡ 0 = omega arith in
+    let tree = rw (c.get_header-h.ensures, c.allowance.ensures) at c.in-Some.ensures in
+    let level : c.in-Some.top.sum ≡ c.get_header-h.result.level = omega arith in
+    let none : c.in-Some.top.rest ≡ 0 = omega arith in
     let same = rw (c.get_header-h.ensures) at level in
     told _ (λ i. omega (arith, c.type_inv.pool i))
     (whole _ (sym c.if-not-length_good.ensures) few chain
-    ∙ (ap (counted _) (sym tree) ∙ counted_all _ _ _ c.get_header-h.ensures none same))
+    ∙ (ap (counted _) (sym tree) ∙ counted_all _ _ c.get_header-h.ensures none same))
