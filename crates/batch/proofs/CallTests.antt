@@ -7,10 +7,10 @@ use mathlib.Core.List.{List}
 use Prim.Native.Nat.{ℕ, ◌*◌, ◌≤◌, ◌<◌}
 use native.Mathlib.Omega.{arith}
 use lib.ListN.{length}
+use Rattle.std.specs.Prelude.{Ok, Err}
 use borrow.Author.Tests.{not-true, not-false}
 use Rattle.tree.specs.declared.Refusal.{Refusal}
 use Rattle.tree.specs.declared.Refusal.TheVariants.{PoolLength, RulesBroken, BadCommand, FewAnswers}
-use Rattle.tree.specs.Codes.{code, number_beside}
 use Rattle.format.specs.declared.Header.{Header}
 use Rattle.format.specs.Words.{header_of, length_good}
 use Rattle.format.specs.Audit.{audit_code}
@@ -21,13 +21,14 @@ use Rattle.std.specs.Prelude.{Result, Ok, Err}
 use Rattle.encoding.specs.declared.Fault.{Fault}
 use Rattle.commands.specs.Scanned.{scanned}
 use Rattle.commands.proofs.Running.{scanned_commands, scanned_bad, batch_size, batch_bad}
+use Rattle.batch.specs.Answered.{call_code, call_number}
 use Rattle.batch.specs.Ready.{Ready}
 
 -- "refuse the call [..] and change no word"
-pub call_refuses : (f : Refusal) (p bytes out : List ℕ) {a b : ℕ} → batch p bytes out ≡ refused f p out → (a ≡ code f) × (b ≡ number_beside f)
-    → (a ≡ (batch p bytes out).code) × ((b ≡ (batch p bytes out).number) × ((p ≡ (batch p bytes out).pool) × (out ≡ (batch p bytes out).answers)))
-unfolding refused
-call_refuses f p bytes out e h = rw e (h.0, (h.1, (refl, refl)))
+pub call_refuses : (f : Refusal) (p out : List ℕ)
+    → ((refused f p out).code ≡ call_code (Err f)) × (((refused f p out).number ≡ call_number (Err f)) × (((refused f p out).pool ≡ p) × ((refused f p out).answers ≡ out)))
+unfolding refused call_code call_number
+call_refuses f p out = (refl, (refl, (refl, refl)))
 
 module _ (bytes : List ℕ) (found : Result ℕ Fault) (scan : found ≡ scanned (read_batch bytes)) where
   -- the byte at which a batch goes wrong fits a word, and so does twice the number of commands
@@ -57,8 +58,8 @@ module _ (bytes : List ℕ) (found : Result ℕ Fault) (scan : found ≡ scanned
         }
 
     -- the call gives 0 and number 0 itself
-    pub finds_none : ((batch p bytes out).code ≡ 0) × ((batch p bytes out).number ≡ 0)
-    unfolding called
+    pub finds_none : (call_code (Ok tt) ≡ (batch p bytes out).code) × (call_number (Ok tt) ≡ (batch p bytes out).number)
+    unfolding called call_code call_number
     finds_none =
         let r = finds_ready refl in
         rw (ran_ends p bytes out r.length_good_holds r.read r.enough r.rules_hold_holds) (refl, refl)

@@ -1,5 +1,6 @@
-pub mod PerformShows
+mod Answers
 pub mod AnswersPut
-pub mod Turns
 pub mod CallTests
 pub mod Decides
+pub mod PerformShows
+pub mod Turns

@@ -2,8 +2,8 @@
 #![tactic(auto)]
 
 ghost use Rattle.std.specs.Prelude.{◌≡◌};
-ghost use Rattle.tree.specs.Codes.{code, number_beside};
 ghost use Rattle.encoding.specs.Batch.{batch};
+ghost use Rattle.batch.specs.Answered.{call_code, call_number};
 ghost use Rattle.batch.specs.Operated.{perform_on, put_answer};
 ghost use Rattle.batch.specs.Ready.{Ready};
 
@@ -84,54 +84,29 @@ fn run(pool: &mut [u32], h: Header, bytes: &[u8], answers: &mut [u32])
     put_header(pool, left);
 }
 
-// A call's own code and number.
-#[derive(Clone, Copy)]
-pub struct Called {
-    pub code: u32,
-    pub number: u32,
-}
-
-fn refuse(f: Refusal) -> Called
-    ensures code { result.code ≡ code f }
-    ensures number { result.number ≡ number_beside f }
-{
-    Called {
-        code: f.code(),
-        number: f.number(),
-    }
-}
-
 // 01: "Codes 1 to 4 refuse the call, in the order 1, 3, 4, 2, and change no word." "A call that is not refused gives 0 and number 0
 // itself."
-#[tactic(auto, using(format::proofs::AuditCases::code_kept, crate::proofs::CallTests::call_refuses, crate::proofs::CallTests::place_fits, crate::proofs::CallTests::count_fits, crate::proofs::CallTests::finds_bad, crate::proofs::CallTests::finds_ready, crate::proofs::CallTests::finds_none, crate::proofs::CallTests::test_length, crate::proofs::CallTests::test_few, crate::proofs::CallTests::test_broken))]
-pub fn batch(pool: &mut [u32], bytes: &[u8], answers: &mut [u32]) -> Called
-    ensures code { result.code ≡ (batch pool.old bytes.now answers.old).code }
-    ensures number { result.number ≡ (batch pool.old bytes.now answers.old).number }
+#[tactic(auto, using(format::proofs::AuditCases::code_kept, crate::proofs::CallTests::call_refuses, crate::proofs::CallTests::place_fits, crate::proofs::CallTests::count_fits, crate::proofs::CallTests::finds_ready, crate::proofs::CallTests::finds_none, crate::proofs::CallTests::test_length, crate::proofs::CallTests::test_few, crate::proofs::CallTests::test_broken))]
+pub fn batch(pool: &mut [u32], bytes: &[u8], answers: &mut [u32]) -> Result<(), Refusal>
+    ensures code { call_code result ≡ (batch pool.old bytes.now answers.old).code }
+    ensures number { call_number result ≡ (batch pool.old bytes.now answers.old).number }
     ensures pool { pool.new ≡ (batch pool.old bytes.now answers.old).pool }
     ensures answers { answers.new ≡ (batch pool.old bytes.now answers.old).answers }
 {
     if !length_good(pool) {
-        return refuse(Refusal::PoolLength);
+        return Err(Refusal::PoolLength);
     }
-    let found = scan(bytes);
-    match found {
-        Err(fault) => {
-            let byte = fault.place as u32;
-            refuse(Refusal::BadCommand(byte))
-        }
-        Ok(count) => {
-            if answers.len() < ANSWER_WORDS * count {
-                return refuse(Refusal::FewAnswers);
-            }
-            if audit(pool) != Answer::DONE {
-                return refuse(Refusal::RulesBroken);
-            }
-            let h = get_header(pool);
-            run(pool, h, bytes, answers);
-            Called {
-                code: Answer::DONE,
-                number: 0,
-            }
-        }
+    let count = match scan(bytes) {
+        Ok(count) => count,
+        Err(fault) => return Err(Refusal::BadCommand(fault.place as u32)),
+    };
+    if answers.len() < ANSWER_WORDS * count {
+        return Err(Refusal::FewAnswers);
     }
+    if audit(pool) != Answer::DONE {
+        return Err(Refusal::RulesBroken);
+    }
+    let h = get_header(pool);
+    run(pool, h, bytes, answers);
+    Ok(())
 }

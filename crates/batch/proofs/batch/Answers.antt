@@ -6,6 +6,6 @@ use Rattle.batch.proofs.batch.Goals as goal
 
 pub returns-in-Err : goal.returns-in-Err
 returns-in-Err c =
-    let bad = finds_bad _ _ c.scan-found.ensures c.args.pool.now c.args.answers.now (sym c.if-not-length_good.ensures) _ c.in-Err.is in
-    let t = call_refuses (BadCommand _) _ _ _ bad (c.refuse-in-Err.ensures.code, c.refuse-in-Err.ensures.number) in
-    record { code = t.0; number = t.1.0; pool = t.1.1.0; answers = t.1.1.1 }
+    let bad = finds_bad _ _ c.scan.ensures c.args.pool.now c.args.answers.now (sym c.if-not-length_good.ensures) _ c.in-Err.is in
+    let t = call_refuses (BadCommand _) c.args.pool.now c.args.answers.now in
+    rw bad (record { code = sym t.0; number = sym t.1.0; pool = sym t.1.1.0; answers = sym t.1.1.1 })
