@@ -5,8 +5,10 @@ use Rattle.numbers.proofs.further.Goals as goal
 
 pub overflow_mul-unit : goal.overflow_mul-unit
 overflow_mul-unit c =
-    omega (arith, most (ahead c.loop-more.invariant (λ z. omega (arith, c.loop-more-test.true)) c.if-bytes-i.false c.if-byte-lt-GROUP.false (omega (arith, c.type_inv.bytes c.loop-more.i))))
+    let byte = c.in_ok-byte.ensures.ok in
+    omega (arith, most (ahead c.loop-i.invariant c.loop-i-test.true byte.0 byte.1 c.if-byte-lt-GROUP.false (omega (arith, byte.1, c.type_inv.bytes c.loop-i.i))))
 
-pub loop-more-preserved : goal.loop-more-preserved
-loop-more-preserved c =
-    ahead c.loop-more.invariant (λ z. omega (arith, c.loop-more-test.true)) c.if-bytes-i.false c.if-byte-lt-GROUP.false (omega (arith, c.type_inv.bytes c.loop-more.i))
+pub loop-i-preserved : goal.loop-i-preserved
+loop-i-preserved c =
+    let byte = c.in_ok-byte.ensures.ok in
+    ahead c.loop-i.invariant c.loop-i-test.true byte.0 byte.1 c.if-byte-lt-GROUP.false (omega (arith, byte.1, c.type_inv.bytes c.loop-i.i))
