@@ -10,40 +10,6 @@ use lib.Seq.{sets, sets-eq, set_out, take-append_seam, get_or-take, drop-cons}
 use Rattle.numbers.specs.Shortest.{shortest, bytes_of}
 use Rattle.numbers.proofs.Took.{shortest_last, shortest_more}
 
-module _ (v : ℕ) where
-  pub one_byte : v < 128 → 1 ≡ length (bytes_of v)
-  unfolding bytes_of
-  one_byte h = rw (shortest_last 4 v h)
-
-  pub two_bytes : 128 ≤ v → v < 16384 → 2 ≡ length (bytes_of v)
-  unfolding bytes_of
-  two_bytes g h = rw (shortest_more 3 v g, shortest_last 3 (v / 128) (omega arith))
-
-  pub three_bytes : 16384 ≤ v → v < 2097152 → 3 ≡ length (bytes_of v)
-  unfolding bytes_of
-  three_bytes g h = rw (shortest_more 3 v (omega arith), shortest_more 2 (v / 128) (omega arith), shortest_last 2 (v / 128 / 128) (omega arith))
-
-  pub four_bytes : 2097152 ≤ v → v < 268435456 → 4 ≡ length (bytes_of v)
-  unfolding bytes_of
-  four_bytes g h =
-      rw (
-        shortest_more 3 v (omega arith),
-        shortest_more 2 (v / 128) (omega arith),
-        shortest_more 1 (v / 128 / 128) (omega arith),
-        shortest_last 1 (v / 128 / 128 / 128) (omega arith),
-      )
-
-  pub five_bytes : 268435456 ≤ v → v < 4294967296 → 5 ≡ length (bytes_of v)
-  unfolding bytes_of
-  five_bytes g h =
-      rw (
-        shortest_more 3 v (omega arith),
-        shortest_more 2 (v / 128) (omega arith),
-        shortest_more 1 (v / 128 / 128) (omega arith),
-        shortest_more 0 (v / 128 / 128 / 128) (omega arith),
-        shortest_last 0 (v / 128 / 128 / 128 / 128) (omega arith),
-      )
-
 -- Bytes written from the first place on, where there is room.
 whole_sets : (bytes l : List ℕ) → length bytes ≤ length l → sets l 0 bytes ≡ bytes ++ drop (length bytes) l
 whole_sets bytes l h = let z : 0 + length bytes ≡ length bytes = omega arith in sets-eq bytes l 0 (omega arith) ∙ rw z

@@ -19,7 +19,7 @@ const MOST_FIFTH: u32 = 15;
 
 // The byte at place `at`; behind the last one it is the end of the bytes that goes wrong.
 fn byte_at(bytes: &[u8], at: usize) -> Result<u32, Fault>
-    ensures ok { IfOk result (λ b. (at < length bytes.now) × (b ≡ get_or bytes.now at 0)) }
+    ensures ok { IfOk result (λ b. (at < length bytes.now) × (b ≡ get_or bytes.now at 0) × (b < 256)) }
     ensures err { IfErr result (λ f. (length bytes.now ≤ at) × (f ≡ fault (length bytes.now))) }
 {
     if bytes.len() <= at {
@@ -41,7 +41,7 @@ pub fn number(bytes: &[u8], at: usize) -> Reading<u32>
 }
 
 // The number with `low` as its lowest group and the others from place `from` on.
-#[tactic(auto, using(crate::proofs::Groups::ended, crate::proofs::Groups::large, crate::proofs::Groups::padded, crate::proofs::Groups::read_last, crate::proofs::Ahead::answer, crate::proofs::Ahead::most, crate::proofs::Ahead::fits, crate::proofs::Ahead::ahead, crate::proofs::Ahead::below_above))]
+#[tactic(auto, using(crate::proofs::Groups::ended, crate::proofs::Groups::large, crate::proofs::Groups::padded, crate::proofs::Groups::read_last, crate::proofs::Ahead::answer, crate::proofs::Ahead::most, crate::proofs::Ahead::next_most, crate::proofs::Ahead::fits, crate::proofs::Ahead::ahead, crate::proofs::Ahead::below_above))]
 fn further(bytes: &[u8], from: usize, low: u32) -> Reading<u32>
     requires { (low < 128) × (from ≤ length bytes.now) }
     ensures { result ≡ below low (groups 3 false bytes.now from) }
@@ -70,35 +70,6 @@ fn further(bytes: &[u8], from: usize, low: u32) -> Reading<u32>
     Err(Fault { place: last })
 }
 
-// From here on a number takes two bytes, three, four, five.
-const TWO_BYTES: u32 = GROUP;
-
-const THREE_BYTES: u32 = GROUP * TWO_BYTES;
-
-const FOUR_BYTES: u32 = GROUP * THREE_BYTES;
-
-const FIVE_BYTES: u32 = GROUP * FOUR_BYTES;
-
-// How many bytes v takes.
-#[tactic(auto, using(crate::proofs::Putting::one_byte, crate::proofs::Putting::two_bytes, crate::proofs::Putting::three_bytes, crate::proofs::Putting::four_bytes, crate::proofs::Putting::five_bytes))]
-pub fn number_length(v: u32) -> usize
-    ensures { result ≡ length (bytes_of v) }
-{
-    if v < TWO_BYTES {
-        return 1;
-    }
-    if v < THREE_BYTES {
-        return 2;
-    }
-    if v < FOUR_BYTES {
-        return 3;
-    }
-    if v < FIVE_BYTES {
-        return 4;
-    }
-    5
-}
-
 // So many bytes a number has at most.
 const MOST_BYTES: usize = 5;
 
@@ -118,6 +89,13 @@ fn encode(v: u32) -> ([u8; MOST_BYTES], usize)
     }
     bytes[count] = left as u8;
     (bytes, count + 1)
+}
+
+// How many bytes v takes.
+pub fn number_length(v: u32) -> usize
+    ensures { result ≡ length (bytes_of v) }
+{
+    encode(v).1
 }
 
 // Writes the bytes of v from place `at` on, and answers how many they are. Past the end nothing is written.
