@@ -5,7 +5,7 @@ use Rattle.encoding.specs.declared.Operation.{Operation}
 use Rattle.encoding.specs.declared.Operation.TheVariants.{Search, Insert, Delete, Step, Settle, AtOrAbove, Count, DeleteSpan}
 use Rattle.encoding.specs.declared.Command.{Command}
 use Rattle.encoding.specs.Operations.{arguments, which}
-use Rattle.format.specs.declared.Audited.TheVariants.{Length, Broken, Passed}
+use Rattle.format.specs.declared.Unsound.TheVariants.{Length, Broken}
 use Rattle.format.specs.Words.{words_of}
 use Rattle.format.specs.Audit.{state_of, audited}
 use Rattle.encoding.specs.Numbers.{Reading, fault, number}
@@ -133,7 +133,7 @@ batch_read (commands cs) p out rest = elim (ltb (length out) (2 * length cs)) [ 
 -- The audit says 1 before them and 2 after them (RULES 9.1 and 9.2).
 unfoldable pub batch : List ℕ → List ℕ → List ℕ → Call
 batch p bytes out = elim (audited p) [
-  | Length ↦ refused PoolLength p out
-  | Broken ↦ batch_read (read_batch bytes) p out (λ cs. refused RulesBroken p out)
-  | Passed h ↦ batch_read (read_batch bytes) p out (λ cs. called cs p out)
+  | Err Length ↦ refused PoolLength p out
+  | Err Broken ↦ batch_read (read_batch bytes) p out (λ cs. refused RulesBroken p out)
+  | Ok h ↦ batch_read (read_batch bytes) p out (λ cs. called cs p out)
 ]

@@ -57,8 +57,7 @@ fn lowest_unmarked(pool: &[u32], first: u32, limit: u32) -> u32
 {
     let mut attempt = 1;
     while attempt <= limit {
-        let found = search(pool, first + attempt);
-        if found.code() != Answer::DONE {
+        if search(pool, first + attempt).is_err() {
             return attempt;
         }
         attempt += 1;
@@ -80,8 +79,7 @@ fn ask(pool: &mut [u32], first: u32, limit: u32) -> Answer
     if attempt == 0 {
         return Answer::Refused(Refusal::AllUsed);
     }
-    let inserted = insert(pool, first + attempt);
-    if inserted.code() != Answer::DONE {
+    if insert(pool, first + attempt).is_err() {
         return Answer::Refused(Refusal::NoRoom);
     }
     Answer::Done(attempt)
@@ -113,8 +111,7 @@ fn clear_at(pool: &mut [u32], key: u32) -> u32
     if key % RESIDENT_KEYS == 0 {
         return 0;
     }
-    let gone = delete(pool, key);
-    if gone.code() != Answer::DONE {
+    if delete(pool, key).is_err() {
         return 0;
     }
     1
@@ -133,11 +130,9 @@ fn clear_from(pool: &mut [u32], first: u32) -> u32
     let mut next = first as u64;
     let mut count: u32 = 0;
     while next < end {
-        let found = next_key(pool, next as u32);
-        if found.code() != Answer::DONE {
+        let Ok(key) = next_key(pool, next as u32) else {
             return count;
-        }
-        let key = found.number();
+        };
         if end <= key as u64 {
             return count;
         }

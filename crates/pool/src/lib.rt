@@ -2,18 +2,18 @@
 #![tactic(auto)]
 
 ghost use Rattle.std.specs.Prelude.{◌≡◌};
-ghost use Rattle.format.specs.Audit.{audited, audit_code};
+ghost use Rattle.format.specs.Audit.{audited, audited_code, audit_code};
 ghost use Rattle.pool.specs.Results.{prepare_code, prepared_words};
 ghost use Rattle.pool.specs.Standing.{allowance};
 ghost use Rattle.pool.specs.Walks.{FreeSays};
 ghost use Rattle.pool.specs.Visits.{leaf_walk, join_walk, tree_tour, top_tour, chain_tour};
 
-use format::{Audited, Header, Slot};
+use format::{Header, Slot, Unsound};
 use slots::{
-    FREE_WEIGHT, free_slot, get_header, get_slot, is_slot, last_slot, length_good, put_header,
-    put_slot, slots_in,
+    free_slot, get_header, get_slot, is_slot, last_slot, length_good, put_header, put_slot,
+    slots_in,
 };
-use tree::{Answer, MOST_LEVEL, Refusal};
+use tree::MOST_LEVEL;
 
 // 01: "The root's is 1 and counts in nothing."
 pub const ROOT_WEIGHT: u32 = 1;
@@ -22,12 +22,12 @@ pub const KEY_END: u64 = 4294967296;
 
 // 01: "Prepare makes a pool empty: header 0, 1, 0, 0, all slots free, chained 1, 2, .. C."
 #[tactic(auto, using(format::proofs::Shown::good_length, crate::proofs::Prepares::chaining_first, crate::proofs::Prepares::chaining_more, crate::proofs::Prepares::prepare_refused, crate::proofs::Prepares::prepare_done))]
-pub fn prepare(pool: &mut [u32]) -> u32
-    ensures code { result ≡ prepare_code pool.old }
+pub fn prepare(pool: &mut [u32]) -> Result<(), Unsound>
+    ensures code { audited_code result ≡ prepare_code pool.old }
     ensures pool { pool.new ≡ prepared_words pool.old }
 {
     if !length_good(pool) {
-        return Refusal::POOL_LENGTH;
+        return Err(Unsound::Length);
     }
     let last = slots_in(pool) as u32;
     put_header(
@@ -39,13 +39,11 @@ pub fn prepare(pool: &mut [u32]) -> u32
             level: 0,
         },
     );
-    let mut s = 1;
-    while s < last {
+    for s in 1..last {
         put_slot(pool, s, free_slot(s + 1));
-        s += 1;
     }
     put_slot(pool, last, free_slot(0));
-    Answer::DONE
+    Ok(())
 }
 
 // How deep a walk down a tree may go: (C + 1) / 2, since a tree of n nodes is at most (n + 1) / 2 nodes deep.
@@ -160,16 +158,7 @@ fn walk_top(pool: &[u32], root: u32, left: u32, most: u32) -> Option<Whole>
 fn is_free(c: Slot) -> bool
     ensures { FreeSays c result }
 {
-    if c.key != 0 {
-        return false;
-    }
-    if c.right != 0 {
-        return false;
-    }
-    if c.weight != FREE_WEIGHT {
-        return false;
-    }
-    true
+    c == free_slot(c.left)
 }
 
 // Whether the free chain from slot `first` on has n slots and ends there.
@@ -178,8 +167,7 @@ fn walk_chain(pool: &[u32], first: u32, n: u32) -> bool
     ensures { result ≡ (chain_tour n pool.now first).answer }
 {
     let mut s = first;
-    let mut left = n;
-    while 0 < left {
+    for _ in 0..n {
         if !is_slot(pool, s) {
             return false;
         }
@@ -188,47 +176,44 @@ fn walk_chain(pool: &[u32], first: u32, n: u32) -> bool
             return false;
         }
         s = c.left;
-        left -= 1;
     }
-    if s != 0 {
-        return false;
-    }
-    true
+    s == 0
 }
 
 // The audit. The chain may have C - N slots and the tree N nodes: at most C + 1 visits in all, on any words, and C where the pool passes
 // (`audit_visits_lem` and `passed_visits` in proofs/Visits.antt).
 #[tactic(auto, using(format::proofs::Shown::good_length, format::proofs::AuditCases::audited_length, crate::proofs::Tours::audit_nodes, crate::proofs::Tours::audit_walks, crate::proofs::Tours::walks_chain, crate::proofs::Tours::walks_tree, crate::proofs::Tours::counted_other, crate::proofs::Tours::counted_level, crate::proofs::Tours::counted_all, crate::proofs::Audits::audit_tour_lem))]
-pub fn examine(pool: &[u32]) -> Audited
+pub fn examine(pool: &[u32]) -> Result<Header, Unsound>
     ensures { result ≡ audited pool.now }
 {
     if !length_good(pool) {
-        return Audited::Length;
+        return Err(Unsound::Length);
     }
     let slots = slots_in(pool) as u32;
     let h = get_header(pool);
     if slots < h.nodes {
-        return Audited::Broken;
+        return Err(Unsound::Broken);
     }
     if !walk_chain(pool, h.free, slots - h.nodes) {
-        return Audited::Broken;
+        return Err(Unsound::Broken);
     }
     let Some(top) = walk_top(pool, h.root, allowance(pool), h.nodes) else {
-        return Audited::Broken;
+        return Err(Unsound::Broken);
     };
     if top.rest != 0 {
-        return Audited::Broken;
+        return Err(Unsound::Broken);
     }
     if top.sum != h.level {
-        return Audited::Broken;
+        return Err(Unsound::Broken);
     }
-    Audited::Passed(h)
+    Ok(h)
 }
 
 // 01: "audit and report give 0, 1 or 2".
 #[tactic(auto, unfolding(format::specs::Audit::audit_code))]
-pub fn audit(pool: &[u32]) -> u32
-    ensures code { result ≡ audit_code pool.now }
+pub fn audit(pool: &[u32]) -> Result<(), Unsound>
+    ensures code { audited_code result ≡ audit_code pool.now }
 {
-    examine(pool).code()
+    examine(pool)?;
+    Ok(())
 }

@@ -3,10 +3,10 @@
 use Rattle.std.proofs.Common.{◌≡◌, ℕ, zero, suc, ◌+◌, ◌-◌, ◌<◌, List, [], ◌∷◌, length, sym, refl, ap, ◌∙◌, add-one, arith}
 use mathlib.Core.Option.{Option, none, some}
 use Rattle.tree.specs.declared.Kind.{Kind}
+use Rattle.tree.specs.declared.Answer.{Answer}
 use Rattle.tree.specs.declared.Answer.TheVariants.{Done, Spent}
 use Rattle.tree.specs.Settle.{last_of, settled}
 use Rattle.format.specs.declared.Header.{Header}
-use Rattle.format.specs.Performing.{performed}
 use Rattle.kinds.specs.declared.Around.{Around}
 use Rattle.kinds.specs.Effects.{header_after}
 use Rattle.steps.specs.Steps.{taken_words}
@@ -51,6 +51,12 @@ module _ (h : Header) (b : ℕ) (p₀ m₀ : List ℕ) where
     pub taken : length (pools_after b (pool_of h p₀ m₀)) ≡ n + length (pools_after (b - n) P)
     pub last : last_of (pool_of h p₀ m₀) (pools_after b (pool_of h p₀ m₀)) ≡ last_of P (pools_after (b - n) P)
 
+  -- what settle answers, and the pool that it leaves
+  pub record Ended (a : Answer) (P : Pool) : Type 0 where
+    pub answer : a ≡ (settle_from m₀ p₀ h b).result.answer
+    pub header : P.header ≡ (settle_from m₀ p₀ h b).result.header
+    pub words : P.words ≡ (settle_from m₀ p₀ h b).words
+
   pub begin : Turn 0 (pool_of h p₀ m₀)
   begin = let e : b - 0 ≡ b = omega arith in record { taken = rw e (omega arith); last = rw e }
 
@@ -65,21 +71,21 @@ module _ (h : Header) (b : ℕ) (p₀ m₀ : List ℕ) where
 
     -- Where the list ends, its length is n and its last pool P.
     settles : pools_after (b - n) P ≡ [] → (o : Option Pool) → next_pool P ≡ o
-        → (performed (settled n o) P.header ≡ (settle_from m₀ p₀ h b).result) × (P.words ≡ (settle_from m₀ p₀ h b).words)
+        → Ended (settled n o) P
     unfolding settle_from
     settles g o e =
         let x : length (pools_after b (pool_of h p₀ m₀)) ≡ n = omega (arith, t.taken, ap length g) in
         let y : last_of (pool_of h p₀ m₀) (pools_after b (pool_of h p₀ m₀)) ≡ P = t.last ∙ last_none P g in
-        (rw (x, y, e), ap (λ (Q : Pool). Q.words) (sym y))
+        record { answer = rw (x, y, e); header = ap (λ (Q : Pool). Q.header) (sym y); words = ap (λ (Q : Pool). Q.words) (sym y) }
 
     pub done : {f : Lowest} → f ≡ (scanned P).found → f ≡ Nothing
-        → (performed (Done n) P.header ≡ (settle_from m₀ p₀ h b).result) × (P.words ≡ (settle_from m₀ p₀ h b).words)
+        → Ended (Done n) P
     unfolding settled
     done ef e =
         let x = next_none P (sym ef ∙ e) in
         settles (after_none P (b - n) x) none x
 
     pub spent : {f : Lowest} → f ≡ (scanned P).found → (s : ℕ) (k : Kind) (a : Around) → f ≡ At s k a → n ≡ b
-        → (performed (Spent n) P.header ≡ (settle_from m₀ p₀ h b).result) × (P.words ≡ (settle_from m₀ p₀ h b).words)
+        → Ended (Spent n) P
     unfolding settled
     spent ef s k a e z = settles (after_spent P (b - n) (omega arith)) _ (next_some P s k a (sym ef ∙ e))

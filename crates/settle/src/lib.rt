@@ -10,7 +10,7 @@ ghost use Rattle.settle.specs.Scanning.{slot_counts, allowed_around, first_from,
 ghost use Rattle.settle.specs.Waking.{two, woken_below, weight_after, kin_of, woken_above, wake_both, woken, woken_way};
 ghost use Rattle.settle.specs.Settling.{settle_from, settle_under, settled_after, settle_answer, settle_words};
 
-use format::{Header, Performed};
+use format::Header;
 use kinds::{Around, fits, look};
 use slots::{get_header, get_slot, last_slot, one_less, put_level};
 use steps::{at_limit, is_inner, take_step};
@@ -282,35 +282,28 @@ fn wake_around(pool: &[u32], awake: &mut [u8], h: Header, s: u32, kind: Kind, a:
 
 // "Settle repeats: the lowest slot with an allowed kind, and there the lowest kind, until none is left or the budget is spent."
 #[tactic(auto, using(crate::proofs::SettleTurns::begin, crate::proofs::SettleTurns::turn, crate::proofs::SettleTurns::done, crate::proofs::SettleTurns::spent))]
-fn settle_from(pool: &mut [u32], awake: &mut [u8], h: Header, budget: u32) -> Performed
-    ensures result { result ≡ (settle_from awake.old pool.old h budget).result }
-    ensures pool { pool.new ≡ (settle_from awake.old pool.old h budget).words }
+fn settle_from(pool: &mut [u32], awake: &mut [u8], h: &mut Header, budget: u32) -> Answer
+    ensures answer { result ≡ (settle_from awake.old pool.old h.old budget).result.answer }
+    ensures header { h.new ≡ (settle_from awake.old pool.old h.old budget).result.header }
+    ensures pool { pool.new ≡ (settle_from awake.old pool.old h.old budget).words }
 {
-    let mut header = h;
     let mut taken: u32 = 0;
-    loop {
-        let Lowest::At(s, k, a) = first_awake(pool, awake, header) else {
-            return Performed {
-                answer: Answer::Done(taken),
-                header,
-            };
-        };
+    while let Lowest::At(s, k, a) = first_awake(pool, awake, *h) {
         if taken == budget {
-            return Performed {
-                answer: Answer::Spent(taken),
-                header,
-            };
+            return Answer::Spent(taken);
         }
-        wake_around(pool, awake, header, s, k, a);
-        header = take_step(pool, header, s, k, a);
+        wake_around(pool, awake, *h, s, k, a);
+        take_step(pool, h, s, k, a);
         taken += 1;
     }
+    Answer::Done(taken)
 }
 
 // Settle, of any pool: every slot is looked at once, and then what the steps wake.
-pub fn settle_under(pool: &mut [u32], h: Header, budget: u32) -> Performed
-    ensures result { result ≡ (settle_under pool.old h budget).result }
-    ensures pool { pool.new ≡ (settle_under pool.old h budget).words }
+pub fn settle_under(pool: &mut [u32], h: &mut Header, budget: u32) -> Answer
+    ensures answer { result ≡ (settle_under pool.old h.old budget).result.answer }
+    ensures header { h.new ≡ (settle_under pool.old h.old budget).result.header }
+    ensures pool { pool.new ≡ (settle_under pool.old h.old budget).words }
 {
     let mut awake = [AWAKE; NUMBERS];
     settle_from(pool, &mut awake, h, budget)
@@ -328,9 +321,10 @@ fn wake_way(pool: &[u32], awake: &mut [u8], root: u32, key: u32)
 
 // Settle for a caller who knows that the tree was red-black before one insert or delete of the key. Of another tree it takes some of the steps
 // that `settle_under` would, and may leave some.
-pub fn settle_after(pool: &mut [u32], h: Header, key: u32, budget: u32) -> Performed
-    ensures result { result ≡ (settled_after pool.old h key budget).result }
-    ensures pool { pool.new ≡ (settled_after pool.old h key budget).words }
+pub fn settle_after(pool: &mut [u32], h: &mut Header, key: u32, budget: u32) -> Answer
+    ensures answer { result ≡ (settled_after pool.old h.old key budget).result.answer }
+    ensures header { h.new ≡ (settled_after pool.old h.old key budget).result.header }
+    ensures pool { pool.new ≡ (settled_after pool.old h.old key budget).words }
 {
     let mut awake = [ASLEEP; NUMBERS];
     wake_way(pool, &mut awake, h.root, key);
@@ -342,8 +336,8 @@ pub fn settle(pool: &mut [u32], budget: u32) -> Answer
     ensures answer { result ≡ settle_answer pool.old budget }
     ensures pool { pool.new ≡ settle_words pool.old budget }
 {
-    let h = get_header(pool);
-    let settled = settle_under(pool, h, budget);
-    put_level(pool, settled.header.level);
-    settled.answer
+    let mut h = get_header(pool);
+    let settled = settle_under(pool, &mut h, budget);
+    put_level(pool, h.level);
+    settled
 }

@@ -1,6 +1,7 @@
 // 02 (vii): the smallest key at or above a given one, the number of keys of a span, and deleting them, on a pool's words under a root or a header
 // that the caller has; and the same for a pool whose header lies in its first words. On any words they end and are equations; what they mean
 // on words that show a sound State is said by `next_shows`, `count_shows` and `span_shows`.
+// A span is given by its ends a and b, as a command and the C interface give them: two numbers, and no type of its own.
 #![tactic(auto)]
 
 ghost use Rattle.std.specs.Prelude.{◌≡◌};

@@ -8,10 +8,10 @@ use native.Mathlib.Omega.{arith}
 use lib.ListN.{length}
 use Prim.Native.Nat.{ℕ, zero, suc, ◌+◌, ◌-◌, ◌<◌}
 use Rattle.tree.specs.declared.Kind.{Kind}
+use Rattle.tree.specs.declared.Answer.{Answer}
 use Rattle.tree.specs.declared.Answer.TheVariants.{Done, Spent}
 use Rattle.tree.specs.Settle.{last_of, settled}
 use Rattle.format.specs.declared.Header.{Header}
-use Rattle.format.specs.Performing.{performed}
 use Rattle.kinds.specs.declared.Around.{Around}
 use Rattle.kinds.specs.Effects.{header_after}
 use Rattle.steps.specs.declared.Lowest.{Lowest}
@@ -54,6 +54,12 @@ module _ (h : Header) (b : ℕ) (p₀ : List ℕ) where
     pub taken : length (pools_after b (pool_of h p₀)) ≡ n + length (pools_after (b - n) P)
     pub last : last_of (pool_of h p₀) (pools_after b (pool_of h p₀)) ≡ last_of P (pools_after (b - n) P)
 
+  -- what settle answers, and the pool that it leaves
+  pub record Ended (a : Answer) (P : Pool) : Type 0 where
+    pub answer : a ≡ (settle_under p₀ h b).result.answer
+    pub header : P.header ≡ (settle_under p₀ h b).result.header
+    pub words : P.words ≡ (settle_under p₀ h b).words
+
   pub begin : Turn 0 (pool_of h p₀)
   begin = let e : b - 0 ≡ b = omega arith in record { taken = rw e (omega arith); last = rw e }
 
@@ -67,21 +73,21 @@ module _ (h : Header) (b : ℕ) (p₀ : List ℕ) where
 
     -- Where the list ends, its length is n and its last pool P.
     settles : pools_after (b - n) P ≡ [] → (o : Option Pool) → next_pool P ≡ o
-        → (performed (settled n o) P.header ≡ (settle_under p₀ h b).result) × (P.words ≡ (settle_under p₀ h b).words)
+        → Ended (settled n o) P
     unfolding settle_under
     settles g o e =
         let x : length (pools_after b (pool_of h p₀)) ≡ n = omega (arith, t.taken, ap length g) in
         let y : last_of (pool_of h p₀) (pools_after b (pool_of h p₀)) ≡ P = t.last ∙ last_none P g in
-        (rw (x, y, e), ap (λ (Q : Pool). Q.words) (sym y))
+        record { answer = rw (x, y, e); header = ap (λ (Q : Pool). Q.header) (sym y); words = ap (λ (Q : Pool). Q.words) (sym y) }
 
     pub done : {f : Lowest} → f ≡ first_allowed P.header P.words → f ≡ Nothing
-        → (performed (Done n) P.header ≡ (settle_under p₀ h b).result) × (P.words ≡ (settle_under p₀ h b).words)
+        → Ended (Done n) P
     unfolding settled
     done ef e =
         let x = next_none P (sym ef ∙ e) in
         settles (after_none P (b - n) x) none x
 
     pub spent : {f : Lowest} → f ≡ first_allowed P.header P.words → (s : ℕ) (k : Kind) (a : Around) → f ≡ At s k a → n ≡ b
-        → (performed (Spent n) P.header ≡ (settle_under p₀ h b).result) × (P.words ≡ (settle_under p₀ h b).words)
+        → Ended (Spent n) P
     unfolding settled
     spent ef s k a e z = settles (after_spent P (b - n) (omega arith)) _ (next_some P s k a (sym ef ∙ e))

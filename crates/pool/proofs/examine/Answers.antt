@@ -1,8 +1,9 @@
 -- `pool::examine` meets its contract: each of its answers is that of the audit as it is walked, by a law of Tours.antt, and that is the
 -- definition's (`audit_tour_lem` of Audits.antt). Assumes nothing.
-use Rattle.std.proofs.Common.{◌≡◌, ◌≤◌, ◌<◌, ◌-◌, ◌^◌, ℕ, List, true, ap, sym, ◌∙◌, arith, get_or}
-use Rattle.format.specs.Words.{header_of, slots_in, length_good}
-use Rattle.format.specs.declared.Audited.{Audited}
+use Rattle.std.proofs.Common.{◌≡◌, ◌≤◌, ◌<◌, ◌-◌, ◌^◌, ℕ, List, true, ap, sym, ◌∙◌, arith, get_or, Result}
+use Rattle.format.specs.Words.{header_of, slots_in, length_good, header}
+use Rattle.format.specs.declared.Header.{Header}
+use Rattle.format.specs.declared.Unsound.{Unsound}
 use Rattle.format.specs.Audit.{audited}
 use Rattle.pool.specs.Standing.{allowance}
 use Rattle.pool.specs.Visits.{top_tour, chain_tour, counted, audit_tour}
@@ -11,7 +12,7 @@ use Rattle.pool.proofs.Audits.{audit_tour_lem}
 use Rattle.pool.proofs.examine.Goals as goal
 
 -- what the walked audit answers is the definition's
-told : (p : List ℕ) → ((i : ℕ) → get_or p i 0 < 2 ^ 32) → {r : Audited} → (audit_tour p).answer ≡ r → r ≡ audited p
+told : (p : List ℕ) → ((i : ℕ) → get_or p i 0 < 2 ^ 32) → {r : Result Header Unsound} → (audit_tour p).answer ≡ r → r ≡ audited p
 told p small e = sym e ∙ audit_tour_lem p small
 
 -- where the chain is good, it is what the walk over the tree counted

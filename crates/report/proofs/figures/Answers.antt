@@ -2,14 +2,13 @@
 -- Reports.antt. Assumes nothing.
 use Rattle.std.proofs.Common.{◌≡◌, ◌≢◌, ◌<◌, ◌^◌, ℕ, List, get_or, arith}
 use Rattle.format.specs.declared.Header.{Header}
-use Rattle.format.specs.declared.Audited.TheVariants.{Passed}
 use Rattle.format.specs.Audit.{audited}
 use Rattle.format.proofs.AuditCases.{rules_are_kept}
 use Rattle.pool.proofs.Standing.{Rooted, root_standing}
 use Rattle.report.proofs.Reports.{root_bound_fits, counted_nodes, root_report}
 use Rattle.report.proofs.figures.Goals as goal
 
-rooted : (p : List ℕ) (h : Header) → ((i : ℕ) → get_or p i 0 < 2 ^ 32) → audited p ≡ Passed h → h.root ≢ 0 → Rooted p h
+rooted : (p : List ℕ) (h : Header) → ((i : ℕ) → get_or p i 0 < 2 ^ 32) → audited p ≡ Ok h → h.root ≢ 0 → Rooted p h
 rooted p h small passed some = root_standing (rules_are_kept p small passed) some
 
 pub below_other-reds-requires : goal.below_other-reds-requires

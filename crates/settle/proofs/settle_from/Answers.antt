@@ -6,6 +6,6 @@ use Rattle.settle.proofs.settle_from.Goals as goal
 pub loop-s-preserved : goal.loop-s-preserved
 loop-s-preserved c = record {
   within = omega arith;
-  turns = turn _ _ _ _ _ _ c.loop-s.invariant.turns c.first_awake.ensures.found _ _ _ c.in-At.is (omega arith) c.take_step-header.ensures.header c.take_step-header.ensures.pool
+  turns = turn _ _ _ _ _ _ c.loop-s.invariant.turns c.first_awake.ensures.found _ _ _ c.in-At.is (omega arith) c.take_step.ensures.header c.take_step.ensures.pool
       (c.wake_around.ensures ∙ rw c.first_awake.ensures.awake);
 }

@@ -8,7 +8,7 @@ use Rattle.settle.proofs.settle_from.Given as goal
 abbrev pub invariant-loop-s : goal.invariant-loop-s
 invariant-loop-s l = record {
   within : l.taken ≤ l.budget;
-  turns : Turn l.fn.h l.budget l.fn.pool l.fn.awake l.taken (pool_of l.header l.pool l.awake);
+  turns : Turn l.fn.h l.budget l.fn.pool l.fn.awake l.taken (pool_of l.h l.pool l.awake);
 }
 
 abbrev pub decreases-loop-s : goal.decreases-loop-s

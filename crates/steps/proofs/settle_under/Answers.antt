@@ -6,5 +6,5 @@ use Rattle.steps.proofs.settle_under.Goals as goal
 pub loop-s-preserved : goal.loop-s-preserved
 loop-s-preserved c = record {
   within = omega arith;
-  turns = turn _ _ _ _ _ c.loop-s.invariant.turns c.first_allowed.ensures _ _ _ c.in-At.is (omega arith) c.take_step-header.ensures.header c.take_step-header.ensures.pool;
+  turns = turn _ _ _ _ _ c.loop-s.invariant.turns c.first_allowed.ensures _ _ _ c.in-At.is (omega arith) c.take_step.ensures.header c.take_step.ensures.pool;
 }

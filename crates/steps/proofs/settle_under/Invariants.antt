@@ -8,7 +8,7 @@ use Rattle.steps.proofs.settle_under.Given as goal
 abbrev pub invariant-loop-s : goal.invariant-loop-s
 invariant-loop-s l = record {
   within : l.taken ≤ l.budget;
-  turns : Turn l.fn.h l.budget l.fn.pool l.taken (pool_of l.header l.pool);
+  turns : Turn l.fn.h l.budget l.fn.pool l.taken (pool_of l.h l.pool);
 }
 
 abbrev pub decreases-loop-s : goal.decreases-loop-s
