@@ -6,6 +6,7 @@ ghost use Rattle.std.specs.Prelude.{◌≡◌};
 ghost use Rattle.encoding.specs.Batch.{batch as call};
 ghost use Rattle.format.specs.Audit.{audit_code};
 ghost use Rattle.pool.specs.Results.{prepare_code, prepared_words};
+ghost use Rattle.tree.specs.Codes.{answer_of};
 ghost use Rattle.saved.specs.Calls.{save_call, load_call};
 ghost use Rattle.ledger.specs.Ledger.{may_send, clear_notice};
 ghost use Rattle.chromatic.specs.Exports.{number_at, in_one_word, returned, returned_answer, interface_number};
@@ -15,6 +16,7 @@ use load::load;
 use pool::{audit, prepare};
 use report::report;
 use save::save;
+use tree::{Answer, Refusal};
 
 // 01: "The exported batch returns its code times 4,294,967,296 plus its number." So do save, load and the send limit's two.
 const CODE_UNIT: u64 = 4294967296;
@@ -24,6 +26,15 @@ fn one_word(code: u32, number: u32) -> u64
     ensures { result ≡ in_one_word code number }
 {
     code as u64 * CODE_UNIT + number as u64
+}
+
+// The same of what an operation answers.
+#[tactic(auto, unfolding(crate::specs::Exports::returned_answer))]
+fn one_answer(done: Result<u32, Refusal>) -> u64
+    ensures { result ≡ returned_answer (answer_of done) }
+{
+    let a = Answer::from(done);
+    one_word(a.code(), a.number())
 }
 
 const INTERFACE: u32 = 8;
@@ -81,8 +92,7 @@ pub extern "C" fn chromatic_save(pool: &[u32], out: &mut [u8]) -> u64
     ensures result { result ≡ returned_answer (save_call pool.now out.old).answer }
     ensures out { out.new ≡ (save_call pool.now out.old).left }
 {
-    let a = save(pool, out);
-    one_word(a.code(), a.number())
+    one_answer(save(pool, out))
 }
 
 // 02 (i): "the reader [answers] 0 and N". The pool may hold any words.
@@ -92,8 +102,7 @@ pub extern "C" fn chromatic_load(pool: &mut [u32], saved: &[u8]) -> u64
     ensures result { result ≡ returned_answer (load_call pool.old saved.now).answer }
     ensures pool { pool.new ≡ (load_call pool.old saved.now).left }
 {
-    let a = load(pool, saved);
-    one_word(a.code(), a.number())
+    one_answer(load(pool, saved))
 }
 
 // 02 (iv): "Yes is code 0 and the attempt", which is marked then. Refusals in the order 15, 1, 2, 16, 7.

@@ -3,7 +3,7 @@
 use mathlib.Core.Path.{◌≡◌, ap, ◌∙◌}
 use mathlib.Core.Logic.{◌≢◌}
 use mathlib.Core.List.{List, [], ◌∷◌, ◌++◌}
-use lib.ListN.{length, length-append}
+use lib.ListN.{length}
 use lib.Seq.{sets, sets-eq}
 use Prim.Native.Nat.{ℕ, ◌+◌, ◌*◌, ◌^◌, ◌≤◌, ◌<◌}
 use native.Mathlib.Omega.{arith}
@@ -22,10 +22,10 @@ use Rattle.pool.specs.Standing.{Standing, allowance}
 use Rattle.pool.proofs.Standing.{Rooted, no_root, root_standing}
 use Rattle.saved.specs.Saved.{tree_numbers, top_numbers, saved_numbers, bytes_of_all, saved_bytes}
 use Rattle.saved.specs.Calls.{save_into}
-use Rattle.saved.proofs.ReadLists.{all_none, all_append}
+use Rattle.saved.proofs.ReadLists.{all_none}
 use Rattle.saved.proofs.Lengths.{saved_length}
 use Rattle.saved.proofs.Restarts.{both, slots_are, into_fits, into_short}
-use Rattle.save.specs.Writing.{Stands, Counts, Placed, Put, Puts}
+use Rattle.save.specs.Writing.{Stands, Placed, Put, Puts}
 use Rattle.save.proofs.Writing.{put_then}
 
 abbrev widen : {p : List ℕ} {s n left : ℕ} → Standing p s n left → Stands p s left
@@ -42,9 +42,6 @@ module _ {p : List ℕ} {h : Header} (K : Kept p h) where
     unfolding top_numbers
     no_numbers = rw (no_root K none)
 
-    pub nodes_none : 0 ≡ length (bytes_of_all (top_numbers (state_of p).top))
-    nodes_none = rw (no_numbers, all_none)
-
     pub put_none : (out : List ℕ) (at : ℕ) → Put (top_numbers (state_of p).top) out out at at
     put_none out at = record { next = rw (no_numbers, all_none) (omega arith); wrote = rw (no_numbers, all_none) }
 
@@ -53,14 +50,8 @@ module _ {p : List ℕ} {h : Header} (K : Kept p h) where
     rooted : Rooted p h
     rooted = root_standing K some-root
 
-    pub root_stands : Stands p h.root left
-    root_stands = rw allowed (widen rooted.standing)
-
     numbers_are : tree_numbers rooted.standing.weight rooted.standing.tree ≡ top_numbers (state_of p).top
     numbers_are = top_tree rooted.top_is rooted.weight_is
-
-    pub nodes_counted : {r : ℕ} → Counts p h.root left r → r ≡ length (bytes_of_all (top_numbers (state_of p).top))
-    nodes_counted f = (rw allowed at f) (widen rooted.standing) ∙ ap (λ (vs : List ℕ). length (bytes_of_all vs)) numbers_are
 
     pub root_placed : {at : ℕ} → at < 2 ^ 32 → Placed p h.root left at
     root_placed few = rw allowed (record { standing = widen rooted.standing; room = omega (arith, rooted.standing.inside, rooted.standing.few) })
@@ -77,13 +68,9 @@ module _ {p : List ℕ} {h : Header} (K : Kept p h) where
     unfolding saved_bytes saved_numbers
     saved_is = rw (slots_same, shows_nodes K.shows)
 
-    pub saved_count : {m n : ℕ} → m ≡ length (bytes_of_all (c ∷ (h.nodes ∷ []))) → n ≡ length (bytes_of_all (top_numbers (state_of p).top))
-        → m + n ≡ length (saved_bytes (state_of p))
-    saved_count e f = rw (saved_is, all_append (c ∷ (h.nodes ∷ [])) (top_numbers (state_of p).top), length-append) (omega arith)
-
     pub saved_wrote : {i r : ℕ} {out mid end : List ℕ} → Put (c ∷ (h.nodes ∷ [])) out mid 0 i → Put (top_numbers (state_of p).top) mid end i r
-        → end ≡ sets out 0 (saved_bytes (state_of p))
-    saved_wrote a b = rw saved_is (put_then a b).wrote
+        → (r ≡ length (saved_bytes (state_of p))) × (end ≡ sets out 0 (saved_bytes (state_of p)))
+    saved_wrote a b = let all = put_then a b in rw saved_is (omega (arith, all.next), all.wrote)
 
   pub saved_small : length (saved_bytes (state_of p)) ≤ 7 * most_slots + 4
   saved_small = omega (arith, saved_length K.sound, sound_total K.sound, K.sound.few)
