@@ -9,7 +9,7 @@ use Prim.Native.Nat.{ℕ, ◌-◌, ◌≤◌, ◌<◌}
 use native.Mathlib.Omega.{arith}
 use Rattle.tree.proofs.Tests.{same_or_not, either_way}
 use Rattle.tree.specs.State.{Top, empty, full, nodes, level_top, GoodTop}
-use Rattle.format.specs.declared.Audited.TheVariants.{Broken, Passed}
+use Rattle.format.specs.declared.Unsound.TheVariants.{Broken}
 use Rattle.format.specs.Words.{header_of, slots_in, length_good, root_of}
 use Rattle.format.specs.Shows.{HoldsTop}
 use Rattle.format.specs.Audit.{rules_hold, audited}
@@ -18,7 +18,7 @@ use Rattle.format.proofs.Shown.{good_length}
 use Rattle.format.proofs.Cover.{LocalFacts, local_facts, facts_shows, facts_sound, sound_local}
 use Rattle.format.proofs.Rules.{rules_show}
 use Rattle.format.proofs.AuditCases.{Words32, audited_length, audited_broken, audited_passed}
-use Rattle.std.specs.Prelude.{Option, Some, None}
+use Rattle.std.specs.Prelude.{Ok, Err, Option, Some, None}
 use Rattle.pool.specs.declared.Whole.{Whole}
 use Rattle.pool.specs.Standing.{allowance}
 use Rattle.pool.specs.Visits.{chain_tour, top_tour, counted, walks_tour, audit_tour}
@@ -32,10 +32,10 @@ abbrev NotShown : List ℕ → Type 0
 NotShown p = (t : Top) (fs : List ℕ) → LocalFacts (header_of p) p t fs → ⊥
 
 module _ (p : List ℕ) where
-  shown_broken : length_good p ≡ true → Words32 p → NotShown p → audited p ≡ Broken
+  shown_broken : length_good p ≡ true → Words32 p → NotShown p → audited p ≡ Err Broken
   shown_broken h words none = go (rules_hold p) refl
     where
-      go : (b : Bool) → rules_hold p ≡ b → audited p ≡ Broken
+      go : (b : Bool) → rules_hold p ≡ b → audited p ≡ Err Broken
       go true e = let g = rules_show (header_of p) p h e words in absurd (none _ _ (sound_local g.0 g.1))
       go false e = audited_broken p h e
 
@@ -78,7 +78,7 @@ module _ (p : List ℕ) where
     -- No fault.
     found_all : length_good p ≡ true → (header_of p).nodes ≤ slots_in p
         → ChainSays p (header_of p).free (slots_in p - (header_of p).nodes) true → f.rest ≡ 0 → f.sum ≡ (header_of p).level
-        → Passed (header_of p) ≡ audited p
+        → Ok (header_of p) ≡ audited p
     found_all length_good_holds few chain count level =
         let T = top_facts W.top _ _ W.fine in
         let facts : LocalFacts (header_of p) p W.top chain.slots =

@@ -12,10 +12,10 @@ use borrow.Author.Tests.{eq-eqb, ne_eqb, le-leb, lt-leb, eqb-true, leb-true, ltb
 use Rattle.tree.specs.State.{key_end}
 use Rattle.format.specs.declared.Header.{Header}
 use Rattle.format.specs.declared.Slot.{Slot}
-use Rattle.format.specs.declared.Audited.TheVariants.{Length, Broken, Passed}
+use Rattle.format.specs.declared.Unsound.TheVariants.{Length, Broken}
 use Rattle.format.specs.Words.{header_of, slot_at, slots_in, length_good, free_weight}
 use Rattle.format.specs.Audit.{is_slot, free_words}
-use Rattle.std.specs.Prelude.{Option, Some, None}
+use Rattle.std.specs.Prelude.{Ok, Err, Option, Some, None}
 use Rattle.pool.specs.declared.Whole.{Whole}
 use Rattle.format.proofs.Slots.{slot_eq}
 use Rattle.pool.specs.Walks.{most_sum, FreeSays}
@@ -190,12 +190,12 @@ turn_next (suc n) p s h e f = rw (e, f, chain_tour, sub-one (suc n))
 
 -- The audit.
 module _ (p : List ℕ) where
-  pub audit_length : length_good p ≡ false → audit_tour p ≡ tour Length 0
+  pub audit_length : length_good p ≡ false → audit_tour p ≡ tour (Err Length) 0
   unfolding audit_tour
   audit_length e = rw (e, audit_tour)
 
   module _ (good : length_good p ≡ true) where
-    pub audit_nodes : slots_in p < (header_of p).nodes → audit_tour p ≡ tour Broken 0
+    pub audit_nodes : slots_in p < (header_of p).nodes → audit_tour p ≡ tour (Err Broken) 0
     unfolding audit_tour
     audit_nodes h = rw (good, lt-leb _ (slots_in p) h, audit_tour)
 
@@ -204,7 +204,7 @@ module _ (p : List ℕ) where
     audit_walks few = rw (good, le-leb _ (slots_in p) few, audit_tour)
 
 module _ (h : Header) (p : List ℕ) where
-  pub walks_chain : (chain_tour (slots_in p - h.nodes) p h.free).answer ≡ false → (walks_tour h p).answer ≡ Broken
+  pub walks_chain : (chain_tour (slots_in p - h.nodes) p h.free).answer ≡ false → (walks_tour h p).answer ≡ Err Broken
   unfolding walks_tour
   walks_chain e = rw (e, walks_tour)
 
@@ -215,11 +215,11 @@ module _ (h : Header) (p : List ℕ) where
 
 -- N against what is left over, and the header's L against the tree's.
 module _ (h : Header) (t : Whole) where
-  pub counted_other : t.rest ≢ 0 → counted h (Some t) ≡ Broken
+  pub counted_other : t.rest ≢ 0 → counted h (Some t) ≡ Err Broken
   counted_other z = rw (ne_eqb t.rest 0 z, counted)
 
-  pub counted_level : t.sum ≢ h.level → counted h (Some t) ≡ Broken
+  pub counted_level : t.sum ≢ h.level → counted h (Some t) ≡ Err Broken
   counted_level z = rw (ne_eqb t.sum h.level z, and-false (eqb t.rest 0), counted)
 
-  pub counted_all : {k : Header} → k ≡ h → t.rest ≡ 0 → t.sum ≡ h.level → counted h (Some t) ≡ Passed k
+  pub counted_all : {k : Header} → k ≡ h → t.rest ≡ 0 → t.sum ≡ h.level → counted h (Some t) ≡ Ok k
   counted_all read e f = rw (eq-eqb t.rest 0 e, eq-eqb t.sum h.level f, counted, read)

@@ -13,12 +13,12 @@ use Rattle.tree.specs.State.{key_end}
 use Rattle.tree.proofs.Tests.{same_or_not, either_way}
 use Rattle.format.specs.declared.Header.{Header}
 use Rattle.format.specs.declared.Slot.{Slot}
-use Rattle.format.specs.declared.Audited.{Audited}
-use Rattle.format.specs.declared.Audited.TheVariants.{Length, Broken, Passed}
+use Rattle.format.specs.declared.Unsound.{Unsound}
+use Rattle.format.specs.declared.Unsound.TheVariants.{Length, Broken}
 use Rattle.format.specs.Words.{header_of, slot_at, slots_in, length_good}
 use Rattle.format.specs.Audit.{is_slot, free_words, audited}
 use Rattle.format.proofs.AuditCases.{Words32}
-use Rattle.std.specs.Prelude.{Option, Some, None}
+use Rattle.std.specs.Prelude.{Result, Ok, Err, Option, Some, None}
 use Rattle.pool.specs.declared.Whole.{Whole}
 use Rattle.pool.specs.Standing.{allowance}
 use Rattle.pool.specs.Visits.{Tour, leaf_test, leaf_walk, join_test, join_walk, inner_tour, tree_tour, off_root, top_tour, chain_tour, counted, walks_tour, audit_tour, audit_visits}
@@ -150,10 +150,10 @@ pub chain_exact : (n : ℕ) (p : List ℕ) (s : ℕ) → (chain_tour n p s).answ
 chain_exact n p s e = rw e at (chain_turned n p s)
 
 -- The audit: v visits of a pool of c slots.
-abbrev Visited : ℕ → ℕ → Audited → Type 0
-Visited c v Length = v ≡ 0
-Visited c v Broken = v ≤ c + 1
-Visited c v (Passed h) = v ≡ c
+abbrev Visited : ℕ → ℕ → Result Header Unsound → Type 0
+Visited c v (Err Length) = v ≡ 0
+Visited c v (Err Broken) = v ≤ c + 1
+Visited c v (Ok h) = v ≡ c
 
 -- The chain has the slots that are not N's, and the tree has N.
 counted_visits : (h : Header) (c v w : ℕ) → h.nodes ≤ c → w ≡ c - h.nodes → (r : Option Whole) → Spent 0 h.nodes v r → Visited c (w + v) (counted h r)
@@ -189,10 +189,10 @@ module _ (p : List ℕ) where
           (λ few. rw (audit_walks p e few, audit_visits) (walks_visits (header_of p) p few))
           (λ many. rw (audit_nodes p e many, audit_visits) (omega arith))
 
-  audits_most : (c v : ℕ) (r : Audited) → Visited c v r → v ≤ c + 1
-  audits_most c v Length h = omega arith
-  audits_most c v Broken h = h
-  audits_most c v (Passed k) h = omega arith
+  audits_most : (c v : ℕ) (r : Result Header Unsound) → Visited c v r → v ≤ c + 1
+  audits_most c v (Err Length) h = omega arith
+  audits_most c v (Err Broken) h = h
+  audits_most c v (Ok k) h = omega arith
 
   -- On any words at most C + 1 visits.
   pub audit_visits_lem : audit_visits p ≤ slots_in p + 1
@@ -203,7 +203,7 @@ module _ (p : List ℕ) where
   length_visits e = rw (audit_length p e, audit_visits)
 
   -- C where the pool passes: each slot once.
-  pub passed_visits : Words32 p → {h : Header} → audited p ≡ Passed h → audit_visits p ≡ slots_in p
+  pub passed_visits : Words32 p → {h : Header} → audited p ≡ Ok h → audit_visits p ≡ slots_in p
   passed_visits words e = rw (audit_tour_lem p words ∙ e) at tour_visits
 
 -- C = 1, and a root that is its own child: C + 1 visits are made.

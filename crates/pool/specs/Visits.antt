@@ -1,12 +1,12 @@
 -- The audit's walks as definitions that compute, with the code's recursion, loop and order: what each answers, and how many visits it
 -- makes. A visit is a call of `walk_tree` or a turn of the loop of `walk_chain`; it reads one slot at most. (Besides, `walk_top` reads
 -- the root's slot once.) No public contract cites this page; it serves RULES 2.
-use Rattle.std.specs.Prelude.{Option, Some, None, Bool, true, false, ◌&&◌, List, eqb, leb, ltb, ℕ, zero, suc, ◌+◌, ◌-◌}
+use Rattle.std.specs.Prelude.{Result, Ok, Err, Option, Some, None, Bool, true, false, ◌&&◌, List, eqb, leb, ltb, ℕ, zero, suc, ◌+◌, ◌-◌}
 use Rattle.tree.specs.State.{key_end}
 use Rattle.format.specs.declared.Header.{Header}
 use Rattle.format.specs.declared.Slot.{Slot}
-use Rattle.format.specs.declared.Audited.{Audited}
-use Rattle.format.specs.declared.Audited.TheVariants.{Length, Broken, Passed}
+use Rattle.format.specs.declared.Unsound.{Unsound}
+use Rattle.format.specs.declared.Unsound.TheVariants.{Length, Broken}
 use Rattle.format.specs.Words.{header_of, slot_at, slots_in, length_good}
 use Rattle.format.specs.Audit.{is_slot, free_words}
 use Rattle.pool.specs.declared.Whole.{Whole}
@@ -84,22 +84,22 @@ chain_tour (suc n) p s = elim (is_slot p s && free_words p s) [
 ]
 
 -- The audit: the length, N, the free chain, the tree, that no node of N is left over, and the header's L.
-abbrev pub counted : Header → Option Whole → Audited
-counted h None = Broken
-counted h (Some t) = elim (eqb t.rest 0 && eqb t.sum h.level) [ true ↦ Passed h | false ↦ Broken ]
+abbrev pub counted : Header → Option Whole → Result Header Unsound
+counted h None = Err Broken
+counted h (Some t) = elim (eqb t.rest 0 && eqb t.sum h.level) [ true ↦ Ok h | false ↦ Err Broken ]
 
-unfoldable pub walks_tour : Header → List ℕ → Tour Audited
+unfoldable pub walks_tour : Header → List ℕ → Tour (Result Header Unsound)
 walks_tour h p = let chain = chain_tour (slots_in p - h.nodes) p h.free in elim chain.answer [
-  | false ↦ tour Broken chain.visits
+  | false ↦ tour (Err Broken) chain.visits
   | true ↦ let tree = top_tour p h.root (allowance p) h.nodes in tour (counted h tree.answer) (chain.visits + tree.visits)
 ]
 
-unfoldable pub audit_tour : List ℕ → Tour Audited
+unfoldable pub audit_tour : List ℕ → Tour (Result Header Unsound)
 audit_tour p = elim (length_good p) [
-  | false ↦ tour Length 0
+  | false ↦ tour (Err Length) 0
   | true ↦ elim (leb (header_of p).nodes (slots_in p)) [
     | true ↦ walks_tour (header_of p) p
-    | false ↦ tour Broken 0
+    | false ↦ tour (Err Broken) 0
   ]
 ]
 
