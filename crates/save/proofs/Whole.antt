@@ -15,16 +15,19 @@ use Rattle.tree.specs.State.{Top, full}
 use Rattle.tree.proofs.SoundStates.{sound_total}
 use Rattle.format.specs.declared.Header.{Header}
 use Rattle.format.specs.Words.{last_slot}
-use Rattle.format.specs.Audit.{state_of}
+use Rattle.std.specs.Prelude.{Err}
+use Rattle.format.specs.declared.Unsound.{Unsound}
+use Rattle.format.specs.declared.Unsound.TheVariants.{Length, Broken}
+use Rattle.format.specs.Audit.{state_of, audited, refusal_of}
 use Rattle.format.proofs.Shown.{shows_nodes}
-use Rattle.format.proofs.AuditCases.{Kept}
+use Rattle.format.proofs.AuditCases.{Kept, length_wrong, rules_are_broken}
 use Rattle.pool.specs.Standing.{Standing, allowance}
 use Rattle.pool.proofs.Standing.{Rooted, no_root, root_standing}
 use Rattle.saved.specs.Saved.{tree_numbers, top_numbers, saved_numbers, bytes_of_all, saved_bytes}
-use Rattle.saved.specs.Calls.{save_into}
+use Rattle.saved.specs.Calls.{save_into, save_call}
 use Rattle.saved.proofs.ReadLists.{all_none}
 use Rattle.saved.proofs.Lengths.{saved_length}
-use Rattle.saved.proofs.Restarts.{both, slots_are, into_fits, into_short}
+use Rattle.saved.proofs.Restarts.{both, slots_are, into_fits, into_short, save_length, save_broken}
 use Rattle.save.specs.Writing.{Stands, Placed, Put, Puts}
 use Rattle.save.proofs.Writing.{put_then}
 
@@ -85,3 +88,12 @@ module _ (bytes out : List ℕ) {n : ℕ} (count : n ≡ length bytes) where
       let z : 0 + length bytes ≡ length bytes = omega arith in
       let b = both (into_fits bytes out (omega arith)) in
       (ap Done count ∙ b.0, w ∙ (sets-eq bytes out 0 (omega arith) ∙ rw z b.1))
+
+-- What the audit refuses, and what it does not.
+pub unsound_refused : (p out : List ℕ) {u : Unsound} → audited p ≡ Err u
+    → (Refused (refusal_of u) ≡ (save_call p out).answer) × (out ≡ (save_call p out).left)
+unsound_refused p out {u} e = go u e
+  where
+    go : (v : Unsound) → audited p ≡ Err v → (Refused (refusal_of v) ≡ (save_call p out).answer) × (out ≡ (save_call p out).left)
+    go Length f = both (save_length p out (length_wrong p f))
+    go Broken f = let x = rules_are_broken p f in both (save_broken p out x.0 x.1)

@@ -16,10 +16,11 @@ use Rattle.format.specs.Words.{slot_at}
 use Rattle.pool.specs.Walks.{most_sum}
 use Rattle.pool.proofs.Standing.{Children, standing_weight, standing_leaf, standing_node}
 use Rattle.numbers.specs.Shortest.{bytes_of}
+use Rattle.numbers.proofs.Putting.{bytes_most}
 use Rattle.saved.specs.Saved.{tree_numbers, bytes_of_all}
 use Rattle.saved.proofs.ReadLists.{all_none, all_more, all_append}
 use Rattle.saved.proofs.States.{size_pos}
-use Rattle.saved.proofs.Lengths.{key_bytes, node_length, tree_length}
+use Rattle.saved.proofs.Lengths.{node_length, tree_length}
 use Rattle.save.specs.Writing.{first_number, Stands, Placed, Put, Puts}
 
 -- Writing one list after another is writing both.
@@ -44,7 +45,7 @@ module _ (a b : ℕ) where
   pair_length_is = rw (all_more a (b ∷ []), all_more b [], all_none, append-nil, length-append)
 
   pub pair_most : length (bytes_of_all (a ∷ (b ∷ []))) ≤ 10
-  pair_most = omega (arith, pair_length_is, key_bytes a, key_bytes b)
+  pair_most = omega (arith, pair_length_is, bytes_most a, bytes_most b)
 
   pub put_both : {out mid end : List ℕ} {at n m : ℕ} → mid ≡ sets out at (bytes_of a) → n ≡ length (bytes_of a) → end ≡ sets mid (at + n) (bytes_of b)
       → m ≡ length (bytes_of b) → Put (a ∷ (b ∷ [])) out end at (at + n + m)

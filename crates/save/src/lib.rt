@@ -2,8 +2,7 @@
 // plus 1 for an inner node; then the key or router."
 #![tactic(auto)]
 
-ghost use Rattle.std.specs.Prelude.{◌≡◌, [], ◌∷◌, length, ◌+◌, ◌^◌, ◌≤◌, ◌<◌};
-ghost use Rattle.format.specs.declared.Audited.TheVariants.{Passed};
+ghost use Rattle.std.specs.Prelude.{◌≡◌, Ok, [], ◌∷◌, length, ◌+◌, ◌^◌, ◌≤◌, ◌<◌};
 ghost use Rattle.format.specs.Audit.{state_of, audited};
 ghost use Rattle.pool.specs.Walks.{most_sum};
 ghost use Rattle.saved.specs.Saved.{top_numbers, bytes_of_all, saved_bytes};
@@ -12,7 +11,7 @@ ghost use Rattle.save.specs.Writing.{first_number, Placed, Put, Puts};
 ghost use Rattle.std.proofs.lemmas.List.Edits.{sets};
 ghost use Rattle.tree.specs.Codes.{answer_of};
 
-use format::{Audited, Header, Slot};
+use format::{Header, Slot};
 use numbers::put_number;
 use pool::{allowance, examine};
 use slots::{get_slot, last_slot};
@@ -60,7 +59,7 @@ fn put_tree(pool: &[u32], out: &mut [u8], s: u32, at: usize, left: u32) -> usize
 // The same of all nodes of a pool that passed the audit: none where the root is 0.
 #[tactic(auto, using(format::proofs::AuditCases::rules_are_kept, crate::proofs::Whole::root_placed))]
 fn put_nodes(pool: &[u32], out: &mut [u8], h: Header, at: usize) -> usize
-    requires { (audited pool.now ≡ Passed h) × (at < 2 ^ 32) }
+    requires { (audited pool.now ≡ Ok h) × (at < 2 ^ 32) }
     ensures { Put (top_numbers (state_of pool.now).top) out.old out.new at result }
 {
     if h.root == 0 {
@@ -72,7 +71,7 @@ fn put_nodes(pool: &[u32], out: &mut [u8], h: Header, at: usize) -> usize
 // All of a pool that passed the audit, from the first byte on, as far as there is room; and how many bytes it is.
 #[tactic(auto, using(format::proofs::AuditCases::rules_are_kept, crate::proofs::Writing::pair_most, crate::proofs::Whole::saved_wrote))]
 fn put_saved(pool: &[u32], out: &mut [u8], h: Header) -> usize
-    requires { audited pool.now ≡ Passed h }
+    requires { audited pool.now ≡ Ok h }
     ensures count { result ≡ length (saved_bytes (state_of pool.now)) }
     ensures out { out.new ≡ sets out.old 0 (saved_bytes (state_of pool.now)) }
 {
@@ -84,7 +83,7 @@ fn put_saved(pool: &[u32], out: &mut [u8], h: Header) -> usize
 // The bytes are counted before the first is written: a count is a writing for which there is no room.
 #[tactic(auto, using(format::proofs::AuditCases::rules_are_kept, crate::proofs::Whole::saved_small, crate::proofs::Whole::no_fit, crate::proofs::Whole::fit))]
 fn save_kept(pool: &[u32], out: &mut [u8], h: Header) -> Result<u32, Refusal>
-    requires { audited pool.now ≡ Passed h }
+    requires { audited pool.now ≡ Ok h }
     ensures answer { answer_of result ≡ (save_into (saved_bytes (state_of pool.now)) out.old).answer }
     ensures out { out.new ≡ (save_into (saved_bytes (state_of pool.now)) out.old).left }
 {
@@ -97,14 +96,11 @@ fn save_kept(pool: &[u32], out: &mut [u8], h: Header) -> Result<u32, Refusal>
 }
 
 // "The writer takes any pool that passes the audit. [..] The writer answers 0 and the byte count".
-#[tactic(auto, using(format::proofs::AuditCases::length_wrong, format::proofs::AuditCases::rules_are_broken, format::proofs::AuditCases::rules_are_kept, saved::proofs::Restarts::both, saved::proofs::Restarts::save_length, saved::proofs::Restarts::save_broken, saved::proofs::Restarts::save_kept))]
+#[tactic(auto, using(format::proofs::AuditCases::rules_are_kept, saved::proofs::Restarts::save_kept, crate::proofs::Whole::unsound_refused))]
 pub fn save(pool: &[u32], out: &mut [u8]) -> Result<u32, Refusal>
     ensures answer { answer_of result ≡ (save_call pool.now out.old).answer }
     ensures out { out.new ≡ (save_call pool.now out.old).left }
 {
-    match examine(pool) {
-        Audited::Length => Err(Refusal::PoolLength),
-        Audited::Broken => Err(Refusal::RulesBroken),
-        Audited::Passed(h) => save_kept(pool, out, h),
-    }
+    let h = examine(pool)?;
+    save_kept(pool, out, h)
 }
