@@ -17,8 +17,8 @@ use Rattle.format.specs.Audit.{audit_code}
 use Rattle.format.proofs.AuditCases.{Kept, code_broken}
 use Rattle.encoding.specs.Batch.{most_commands, read_batch, called, refused, batch}
 use Rattle.encoding.proofs.Endings.{length_ends, bad_ends, few_ends, broken_ends, ran_ends}
-use Rattle.commands.specs.declared.Scanned.{Scanned}
-use Rattle.commands.specs.declared.Scanned.TheVariants.{Commands, BadAt}
+use Rattle.std.specs.Prelude.{Result, Ok, Err}
+use Rattle.encoding.specs.declared.Fault.{Fault}
 use Rattle.commands.specs.Scanned.{scanned}
 use Rattle.commands.proofs.Running.{scanned_commands, scanned_bad, batch_size, batch_bad}
 use Rattle.batch.specs.Answered.{call_code, call_number}
@@ -30,20 +30,20 @@ pub call_refuses : (f : Refusal) (p out : List ℕ)
 unfolding refused call_code call_number
 call_refuses f p out = (refl, (refl, (refl, refl)))
 
-module _ (bytes : List ℕ) (found : Scanned) (scan : found ≡ scanned (read_batch bytes)) where
+module _ (bytes : List ℕ) (found : Result ℕ Fault) (scan : found ≡ scanned (read_batch bytes)) where
   -- the byte at which a batch goes wrong fits a word, and so does twice the number of commands
-  pub place_fits : (i : ℕ) → found ≡ BadAt i → i ≤ 2816
-  place_fits i e = (batch_bad bytes (scanned_bad (read_batch bytes) (sym scan ∙ e))).1
+  pub place_fits : (f : Fault) → found ≡ Err f → f.place ≤ 2816
+  place_fits f e = (batch_bad bytes (scanned_bad (read_batch bytes) (sym scan ∙ e))).1
 
-  pub count_fits : (n : ℕ) → found ≡ Commands n → n ≤ most_commands
+  pub count_fits : (n : ℕ) → found ≡ Ok n → n ≤ most_commands
   count_fits n e =
       let x = scanned_commands (read_batch bytes) (sym scan ∙ e) in omega (arith, x.2, (batch_size bytes x.1).0)
 
-  pub finds_bad : (p out : List ℕ) → length_good p ≡ true → (i : ℕ) → found ≡ BadAt i → batch p bytes out ≡ refused (BadCommand i) p out
-  finds_bad p out good i e = bad_ends p bytes out good (scanned_bad (read_batch bytes) (sym scan ∙ e))
+  pub finds_bad : (p out : List ℕ) → length_good p ≡ true → (f : Fault) → found ≡ Err f → batch p bytes out ≡ refused (BadCommand f.place) p out
+  finds_bad p out good f e = bad_ends p bytes out good (scanned_bad (read_batch bytes) (sym scan ∙ e))
 
   -- nothing refuses the call
-  module _ (p out : List ℕ) (n : ℕ) (e : found ≡ Commands n) (enough : 2 * n ≤ length out) (k : Kept p (header_of p)) where
+  module _ (p out : List ℕ) (n : ℕ) (e : found ≡ Ok n) (enough : 2 * n ≤ length out) (k : Kept p (header_of p)) where
     pub finds_ready : {h : Header} → h ≡ header_of p → Ready p h bytes out
     finds_ready read =
         let x = scanned_commands (read_batch bytes) (sym scan ∙ e) in
@@ -70,7 +70,7 @@ module _ (p bytes out : List ℕ) {long : Bool} (l : long ≡ length_good p) whe
   pub test_length : not long ≡ true → batch p bytes out ≡ refused PoolLength p out
   test_length t = length_ends p bytes out (sym l ∙ not-true long t)
 
-  module _ (t : not long ≡ false) {found : Scanned} (scan : found ≡ scanned (read_batch bytes)) {n : ℕ} (e : found ≡ Commands n) where
+  module _ (t : not long ≡ false) {found : Result ℕ Fault} (scan : found ≡ scanned (read_batch bytes)) {n : ℕ} (e : found ≡ Ok n) where
     pub test_few : length out < 2 * n → batch p bytes out ≡ refused FewAnswers p out
     test_few h =
         let x = scanned_commands (read_batch bytes) (sym scan ∙ e) in

@@ -7,13 +7,14 @@ use native.Mathlib.Omega.{arith}
 use lib.ListN.{length, length-append}
 use Rattle.tree.specs.State.{State, key_end, Sound}
 use Rattle.format.specs.declared.Header.{Header}
-use Rattle.format.specs.declared.Performed.{Performed}
+use Rattle.tree.specs.declared.Answer.{Answer}
 use Rattle.format.specs.Words.{put_header, words_of}
 use Rattle.format.specs.Audit.{state_of}
 use Rattle.format.specs.Shows.{Shows}
 use Rattle.format.proofs.Shown.{written_decided}
 use Rattle.encoding.specs.declared.Command.{Command}
-use Rattle.encoding.specs.declared.Reading.TheVariants.{Next, Fault}
+use Rattle.std.specs.Prelude.{Ok, Err}
+use Rattle.encoding.specs.declared.Fault.{Fault}
 use Rattle.encoding.specs.Batch.{most_commands, command_at, perform, answers_of, run_all, Call, called, batch}
 use Rattle.encoding.proofs.Endings.{ran_ends}
 use Rattle.encoding.proofs.Performs.{perform_sound}
@@ -59,34 +60,33 @@ turn_starts {h} {p} {bytes} {out} r =
     }
 
 module _ {bytes : List ℕ} {k : Call} {h : Header} {p out : List ℕ} {at place : ℕ} (w : Turn bytes k h p out at place) where
-  pub turn_fault : {j : ℕ} → at < length bytes → command_at bytes at ≡ Fault j → ⊥
+  pub turn_fault : {f : Fault} → at < length bytes → command_at bytes at ≡ Err f → ⊥
   turn_fault l e = running_fault w.running l e
 
   -- two more answer words, of at most 512
   pub turn_place : at < length bytes → place + 2 ≤ 2 * most_commands
   turn_place l = omega (arith, w.place_is, w.few, (running_more w.running).0 l)
 
-  pub turn_good : (c : Command) (next : ℕ) → at < length bytes → command_at bytes at ≡ Next c next → c.first < key_end
-      → (r : Performed) (q : List ℕ) → r ≡ (perform_on c p h).result → q ≡ (perform_on c p h).words
-      → Turn bytes k r.header q (put_answer out place r.answer) next (place + 2)
+  pub turn_good : (c : Command) (next : ℕ) → at < length bytes → command_at bytes at ≡ Ok (c, next) → c.first < key_end
+      → (a : Answer) (g : Header) (q : List ℕ) → a ≡ (perform_on c p h).result.answer → g ≡ (perform_on c p h).result.header → q ≡ (perform_on c p h).words
+      → Turn bytes k g q (put_answer out place a) next (place + 2)
   unfolding run_all answers_of put_answers
-  turn_good c next l e f r q er eq =
-      let g = running_good w.running l e in
+  turn_good c next l e f a g q ea eg eq =
+      let r = running_good w.running l e in
       let S = w.shown in
       let x = perform_shows c w.sound w.shows in
-      let a : r.answer ≡ (perform c S).answer = ap (λ (r : Performed). r.answer) er ∙ x.answers in
       record {
         cs = w.cs;
         done = w.done ++ (c ∷ []);
-        left = g.0;
+        left = r.0;
         shown = (perform c S).after;
-        running = g.2;
+        running = r.2;
         few = w.few;
         place_is = omega (arith, w.place_is, length-append w.done (c ∷ []));
         sound = perform_sound c S f w.sound;
-        shows = rw (er, eq) x.shows;
-        pool_comes = rw g.1 at w.pool_comes;
-        answers_come = rw a (rw g.1 at w.answers_come);
+        shows = rw (eg, eq) x.shows;
+        pool_comes = rw r.1 at w.pool_comes;
+        answers_come = rw (ea ∙ x.answers) (rw r.1 at w.answers_come);
       }
 
   pub turn_ends : length bytes ≤ at → (put_header p h ≡ k.pool) × (out ≡ k.answers)

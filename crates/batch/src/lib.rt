@@ -7,9 +7,9 @@ ghost use Rattle.batch.specs.Answered.{call_code, call_number};
 ghost use Rattle.batch.specs.Operated.{perform_on, put_answer};
 ghost use Rattle.batch.specs.Ready.{Ready};
 
-use commands::{Scanned, command_at, scan};
-use encoding::{Command, Operation, Reading};
-use format::{Header, Performed};
+use commands::{command_at, scan};
+use encoding::{Command, Operation};
+use format::Header;
 use pool::audit;
 use slots::{get_header, length_good, put_header, put_word};
 use spans::{at_or_above, count_under, delete_span_under};
@@ -22,29 +22,20 @@ const ANSWER_WORDS: usize = 2;
 
 // One command, under the header that the commands before it left.
 #[tactic(auto, unfolding(crate::specs::Operated::perform_on, crate::specs::Operated::operated))]
-fn perform(pool: &mut [u32], h: Header, c: Command) -> Performed
-    ensures result { result ≡ (perform_on c pool.old h).result }
-    ensures pool { pool.new ≡ (perform_on c pool.old h).words }
+fn perform(pool: &mut [u32], h: &mut Header, c: Command) -> Answer
+    ensures answer { result ≡ (perform_on c pool.old h.old).result.answer }
+    ensures header { h.new ≡ (perform_on c pool.old h.old).result.header }
+    ensures pool { pool.new ≡ (perform_on c pool.old h.old).words }
 {
-    let operation = c.operation;
-    match operation {
-        Operation::Search => Performed {
-            answer: search_under(pool, h.root, c.first),
-            header: h,
-        },
-        Operation::Insert => insert_under(pool, h, c.first),
-        Operation::Delete => delete_under(pool, h, c.first),
-        Operation::Step => step_under(pool, h, c.first, c.second),
+    match c.operation {
+        Operation::Search => search_under(pool, h.root, c.first).into(),
+        Operation::Insert => insert_under(pool, h, c.first).into(),
+        Operation::Delete => delete_under(pool, h, c.first).into(),
+        Operation::Step => step_under(pool, h, c.first, c.second).into(),
         Operation::Settle => settle_under(pool, h, c.first),
-        Operation::AtOrAbove => Performed {
-            answer: at_or_above(pool, h.root, c.first),
-            header: h,
-        },
-        Operation::Count => Performed {
-            answer: count_under(pool, h.root, c.first, c.second),
-            header: h,
-        },
-        Operation::DeleteSpan => delete_span_under(pool, h, c.first, c.second),
+        Operation::AtOrAbove => at_or_above(pool, h.root, c.first).into(),
+        Operation::Count => Answer::Done(count_under(pool, h.root, c.first, c.second)),
+        Operation::DeleteSpan => Answer::Done(delete_span_under(pool, h, c.first, c.second)),
     }
 }
 
@@ -62,26 +53,23 @@ fn put_answer(answers: &mut [u32], place: usize, a: Answer)
 // 01: "Commands run in order and a refused command does not stop the rest." The pool passed the audit with the header h, which is carried
 // through the commands and written once, at the end.
 #[tactic(auto, using(crate::proofs::Turns::turn_starts, crate::proofs::Turns::turn_fault, crate::proofs::Turns::turn_place, crate::proofs::Turns::turn_good, crate::proofs::Turns::turn_ends))]
-fn run(pool: &mut [u32], h: Header, bytes: &[u8], answers: &mut [u32])
+fn run(pool: &mut [u32], mut h: Header, bytes: &[u8], answers: &mut [u32])
     requires { Ready pool.old h bytes.now answers.old }
     ensures pool { pool.new ≡ (batch pool.old bytes.now answers.old).pool }
     ensures answers { answers.new ≡ (batch pool.old bytes.now answers.old).answers }
 {
-    let mut left = h;
     let mut at: usize = 0;
     let mut place: usize = 0;
     while at < bytes.len() {
-        let Reading::Next(c, next) = command_at(bytes, at) else {
+        let Ok((c, next)) = command_at(bytes, at) else {
             return;
         };
-        let done = perform(pool, left, c);
-        let answer = done.answer;
+        let answer = perform(pool, &mut h, c);
         put_answer(answers, place, answer);
-        left = done.header;
         place += ANSWER_WORDS;
         at = next;
     }
-    put_header(pool, left);
+    put_header(pool, h);
 }
 
 // 01: "Codes 1 to 4 refuse the call, in the order 1, 3, 4, 2, and change no word." "A call that is not refused gives 0 and number 0
@@ -97,8 +85,8 @@ pub fn batch(pool: &mut [u32], bytes: &[u8], answers: &mut [u32]) -> Result<(), 
         return Err(Refusal::PoolLength);
     }
     let count = match scan(bytes) {
-        Scanned::BadAt(place) => return Err(Refusal::BadCommand(place as u32)),
-        Scanned::Commands(count) => count,
+        Ok(count) => count,
+        Err(fault) => return Err(Refusal::BadCommand(fault.place as u32)),
     };
     if answers.len() < ANSWER_WORDS * count {
         return Err(Refusal::FewAnswers);

@@ -25,7 +25,7 @@ use Rattle.format.proofs.AuditCases.{Words32, audit_codes}
 use Rattle.pool.specs.Results.{prepare_code, prepared_words}
 use Rattle.pool.proofs.Prepares.{prepared_shows, prepared_accepted}
 use Rattle.report.proofs.Exact.{report_fits_64}
-use Rattle.encoding.specs.declared.Number.TheVariants.{Read}
+use Rattle.std.specs.Prelude.{Ok}
 use Rattle.encoding.specs.Numbers.{Bytes, number}
 use Rattle.saved.specs.Loaded.{bad_place}
 use Rattle.saved.specs.Calls.{Call, place_word, load_call}
@@ -94,7 +94,7 @@ module _ (p bytes : List ℕ) (long : length_good p ≡ true) (known : slots_in 
         now_kept = rw f.now_14;
       })
 
-  pub before_returned : {c next : ℕ} → number bytes 0 ≡ Read c next → most_before < c
+  pub before_returned : {c next : ℕ} → number bytes 0 ≡ Ok (c, next) → most_before < c
       → (returned_answer (load_before p bytes).answer ≡ 13 * code_unit + place_word (bad_place bytes)) × ((load_before p bytes).left ≡ p)
   unfolding returned_answer in_one_word
   before_returned e large = rw (before_refuses p bytes long known e large) (refl, refl)

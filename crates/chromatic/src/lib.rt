@@ -4,30 +4,41 @@
 #![tactic(auto)]
 
 ghost use Rattle.std.specs.Prelude.{◌≡◌};
-ghost use Rattle.tree.specs.declared.Answer.{Answer};
 ghost use Rattle.encoding.specs.Batch.{batch as call};
-ghost use Rattle.format.specs.Audit.{audit_code};
+ghost use Rattle.format.specs.Audit.{audited_code, audit_code};
 ghost use Rattle.pool.specs.Results.{prepare_code, prepared_words};
+ghost use Rattle.tree.specs.Codes.{answer_of};
 ghost use Rattle.saved.specs.Calls.{save_call, load_call};
 ghost use Rattle.ledger.specs.Ledger.{may_send, clear_notice};
 ghost use Rattle.chromatic.specs.Exports.{number_at, returned, returned_answer, interface_number};
 
 use ledger::{clear_notice, may_send};
+use format::Unsound;
 use load::load;
 use pool::{audit, prepare};
-use report::report;
+use report::{figure_at, report};
 use save::save;
-use tree::Answer;
+use tree::{Answer, Refusal};
 
 // 01: "The exported batch returns its code times 4,294,967,296 plus its number." So do save, load and the send limit's two.
 const CODE_UNIT: u64 = 4294967296;
 
 #[tactic(auto, unfolding(crate::specs::Exports::returned_answer, crate::specs::Exports::in_one_word))]
-fn one_word<A: Into<Answer>>(done: A) -> u64
-    ensures { (answer : Answer) × A.converts done answer × (result ≡ returned_answer answer) }
+fn one_word(done: Result<u32, Refusal>) -> u64
+    ensures { result ≡ returned_answer (answer_of done) }
 {
-    let answer = done.into();
+    let answer = Answer::from(done);
     u64::from(answer.code()) * CODE_UNIT + u64::from(answer.number())
+}
+
+// The code of prepare and of the audit.
+fn code(done: Result<(), Unsound>) -> u32
+    ensures { result ≡ audited_code done }
+{
+    match done {
+        Ok(()) => Answer::DONE,
+        Err(cause) => Refusal::from(cause).code(),
+    }
 }
 
 const INTERFACE: u32 = 8;
@@ -47,7 +58,7 @@ pub extern "C" fn chromatic_prepare(pool: &mut [u32]) -> u32
     ensures code { result ≡ prepare_code pool.old }
     ensures pool { pool.new ≡ prepared_words pool.old }
 {
-    prepare(pool)
+    code(prepare(pool))
 }
 
 // 0, or 1 when the pool's length is wrong, or 2 when a rule is broken.
@@ -55,7 +66,7 @@ pub extern "C" fn chromatic_prepare(pool: &mut [u32]) -> u32
 pub extern "C" fn chromatic_audit(pool: &[u32]) -> u32
     ensures code { result ≡ audit_code pool.now }
 {
-    audit(pool)
+    code(audit(pool))
 }
 
 // 01: "takes an index, 1 first, and returns that number, 0 for a refused pool or any other index."
@@ -64,7 +75,7 @@ pub extern "C" fn chromatic_audit(pool: &[u32]) -> u32
 pub extern "C" fn chromatic_report(pool: &[u32], index: u32) -> u64
     ensures number { result ≡ number_at pool.now index }
 {
-    report(pool).number(index)
+    report(pool).map_or(0, |f| figure_at(f, index))
 }
 
 #[tactic(auto, using(crate::proofs::Called::called))]

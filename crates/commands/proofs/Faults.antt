@@ -11,9 +11,9 @@ use Prim.Native.Nat.{ℕ, suc, ◌-◌, ◌≤◌, ◌<◌}
 use native.Mathlib.Omega.{arith}
 use Rattle.format.specs.Words.{length_good}
 use Rattle.encoding.specs.declared.Operation.{Operation}
-use Rattle.encoding.specs.declared.Which.TheVariants.{Known}
+use Rattle.std.specs.Prelude.{Some, Err}
+use Rattle.encoding.specs.Numbers.{fault}
 use Rattle.encoding.specs.declared.Command.{Command}
-use Rattle.encoding.specs.declared.Reading.TheVariants.{Fault}
 use Rattle.encoding.specs.Operations.{operation_number, which}
 use Rattle.encoding.specs.Batch.{most_commands, last_argument, meant_at, operation_at, command_at, bad_at, after, read_from, read_batch, Call, called, refused, batch}
 use Rattle.commands.specs.Faults.{BadCommand, bad_operation, unknown, bad_first, bad_second, StandTo, none_stand, one_stands, BadFrom, bad_one, too_many, FirstBad}
@@ -24,25 +24,25 @@ use Rattle.commands.proofs.Commands.{Parsed, wrong_operation, unknown as unknown
 use Rattle.commands.proofs.Reading.{Taken, taken, taken_over, taken_fault, taken_bad, read_over, read_fault, read_good}
 
 module _ (bytes : List ℕ) (i : ℕ) where
-  fault_bad : {j : ℕ} → Parsed bytes i (Fault j) → BadCommand bytes i j
+  fault_bad : {j : ℕ} → Parsed bytes i (Err (fault j)) → BadCommand bytes i j
   fault_bad {j} (wrong_operation e) = bad_operation ((number_bad bytes i j).0 e)
   fault_bad (unknown-parsed {n} e k) = unknown e no_operation
     where
       no_operation : (o : Operation) → n ≢ operation_number o
-      no_operation o s = let w = which_known o in let z : which n ≡ Known o = rw s w in let y : ◌≡◌ {A = ℕ} 0 1 = cc in absurd (omega arith)
+      no_operation o s = let w = which_known o in let z : which n ≡ Some o = rw s w in let y : ◌≡◌ {A = ℕ} 0 1 = cc in absurd (omega arith)
   fault_bad {j} (wrong_first {n} {next} {op = o} e k f) =
       bad_first o (rw (which_number n o k) at e) ((number_bad bytes next j).0 f)
   fault_bad {j} (wrong_last {n} {mid = mid} {op = o} e k h f g) =
       bad_second o h (rw (which_number n o k) at e) f ((number_bad bytes mid j).0 g)
 
-  bad_fault : {j : ℕ} → BadCommand bytes i j → command_at bytes i ≡ Fault j
+  bad_fault : {j : ℕ} → BadCommand bytes i j → command_at bytes i ≡ Err (fault j)
   unfolding command_at operation_at meant_at last_argument
   bad_fault {j} (bad_operation b) = rw ((number_bad bytes i j).1 b)
   bad_fault (unknown {n} e h) = rw (e, which_unknown n h)
-  bad_fault {j} (bad_first o {next} e b) = meant bytes i e (which_known o) ∙ first_wrong bytes o next j ((number_bad bytes next j).1 b)
+  bad_fault {j} (bad_first o {next} e b) = meant bytes i e (which_known o) ∙ first_wrong bytes o next (fault j) ((number_bad bytes next j).1 b)
   bad_fault {j} (bad_second o {next} {a} {mid} h e f b) = meant bytes i e (which_known o) ∙ two bytes o next a mid h f ∙ rw ((number_bad bytes mid j).1 b)
 
-  pub command_bad : (j : ℕ) → (command_at bytes i ≡ Fault j) ↔ BadCommand bytes i j
+  pub command_bad : (j : ℕ) → (command_at bytes i ≡ Err (fault j)) ↔ BadCommand bytes i j
   command_bad j = (λ e. fault_bad (rw e at (parsed bytes i)), bad_fault)
 
 module _ (bytes : List ℕ) where

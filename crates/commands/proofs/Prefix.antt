@@ -13,13 +13,12 @@ use Prim.Native.Nat.{ℕ, ◌+◌, ◌-◌, ◌≤◌, ◌<◌}
 use native.Mathlib.Decide.{dec_lt}
 use native.Mathlib.Omega.{arith}
 use Rattle.tree.proofs.Tests.{same_or_not}
-use Rattle.encoding.specs.declared.Number.{Number}
-use Rattle.encoding.specs.declared.Number.TheVariants.{Read, Wrong}
+use Rattle.encoding.specs.Numbers.{Reading, number}
+use Rattle.std.specs.Prelude.{Ok, Err}
 use Rattle.encoding.specs.declared.Command.{Command}
-use Rattle.encoding.specs.declared.Reading.TheVariants.{Next}
-use Rattle.encoding.specs.Numbers.{number}
 use Rattle.encoding.specs.Operations.{operation_number, arguments}
 use Rattle.encoding.specs.Batch.{most_commands, command_at, commands, bad_at, read_batch}
+use Rattle.encoding.proofs.Readings.{one_read}
 use Rattle.encoding.proofs.OperationNumbers.{which_known, operation_small}
 use Rattle.numbers.specs.Faults.{BadNumber}
 use Rattle.numbers.proofs.Shortest.{number_place}
@@ -49,16 +48,16 @@ pub record LongOperation (bytes : List ℕ) (j : ℕ) : Type 0 where
   pub wrong : BadNumber bytes begins j
   pub stops : Stops bytes begins
 
-parsed_local : {bytes other : List ℕ} {m i end : ℕ} {c : Command} → Same bytes other m → Parsed bytes i (Next c end) → end ≤ m
-    → Parsed other i (Next c end)
+parsed_local : {bytes other : List ℕ} {m i end : ℕ} {c : Command} → Same bytes other m → Parsed bytes i (Ok (c, end)) → end ≤ m
+    → Parsed other i (Ok (c, end))
 parsed_local {bytes} {i = i} s (one_argument {next = next} e k h f) l =
     one_argument (number_local bytes i s e (omega (arith, number_place bytes next f))) k h (number_local bytes next s f l)
 parsed_local {bytes} {i = i} s (two_arguments_case {next = next} {mid = mid} e k h f g) l =
     let p = number_place bytes mid g in let q = number_place bytes next f in
     two_arguments_case (number_local bytes i s e (omega arith)) k h (number_local bytes next s f (omega arith)) (number_local bytes mid s g l)
 
-command_local : {bytes other : List ℕ} {m : ℕ} (i : ℕ) {end : ℕ} {c : Command} → Same bytes other m → command_at bytes i ≡ Next c end → end ≤ m
-    → command_at other i ≡ Next c end
+command_local : {bytes other : List ℕ} {m : ℕ} (i : ℕ) {end : ℕ} {c : Command} → Same bytes other m → command_at bytes i ≡ Ok (c, end) → end ≤ m
+    → command_at other i ≡ Ok (c, end)
 command_local {bytes} {other} i s e l = reads other i (parsed_local s (rw e at (parsed bytes i)) l)
 
 -- commands that stand one after the other
@@ -70,7 +69,7 @@ stand_local : {bytes other : List ℕ} {m i k : ℕ} {cs : List Command} → Sam
 stand_local s none_stand l = none_stand
 stand_local {i = i} s (one_stands e r) l = one_stands (command_local i s e (omega (arith, stand_place r))) (stand_local s r l)
 
-stand_more : {bytes : List ℕ} {i k end : ℕ} {c : Command} {cs : List Command} → StandTo bytes i cs k → command_at bytes k ≡ Next c end
+stand_more : {bytes : List ℕ} {i k end : ℕ} {c : Command} {cs : List Command} → StandTo bytes i cs k → command_at bytes k ≡ Ok (c, end)
     → StandTo bytes i (cs ++ (c ∷ [])) end
 stand_more none_stand e = one_stands e none_stand
 stand_more (one_stands f r) e = one_stands f (stand_more r e)
@@ -91,15 +90,15 @@ command_after {bytes} {i} (bad_second o {next} {mid = mid} h e f b) l =
 long_bad : (bytes : List ℕ) (i : ℕ) → 128 ≤ get_or bytes i 0 → (j : ℕ) × BadCommand bytes i j
 long_bad bytes i h = go (number bytes i) refl
   where
-    go : (x : Number) → number bytes i ≡ x → (j : ℕ) × BadCommand bytes i j
-    go (Read v next) e = (i, unknown e (λ o z. omega (arith, number_long bytes i e h, operation_small o)))
-    go (Wrong j) e = (j, bad_operation ((number_bad bytes i j).0 e))
+    go : (x : Reading ℕ) → number bytes i ≡ x → (j : ℕ) × BadCommand bytes i j
+    go (Ok (v, next)) e = (i, unknown e (λ o z. omega (arith, number_long bytes i e h, operation_small o)))
+    go (Err f) e = (f.place, bad_operation ((number_bad bytes i f.place).0 e))
 
 -- Where a command goes wrong at byte j, one goes wrong in all bytes that are the same up to that one.
 bad_local : {bytes other : List ℕ} {i j : ℕ} → Same bytes other (j + 1) → i < length bytes → BadCommand bytes i j → (k : ℕ) × BadCommand other i k
 bad_local {bytes} {i = i} {j} s l (bad_operation b) = (j, bad_operation (bad_stays bytes i s b))
 bad_local {bytes} {other} {i} {j} s l (unknown {n} {next} e h) = elim (dec_lt (get_or bytes i 0) 128) [
-  | yes k ↦ let short = number_byte bytes i l k in let end : i + 1 ≡ next = cc in (i, unknown (number_local bytes i s e (omega arith)) h)
+  | yes k ↦ let end : i + 1 ≡ next = (one_read (number_byte bytes i l k) e).1 in (i, unknown (number_local bytes i s e (omega arith)) h)
   | no k ↦ long_bad other i (omega (arith, s.same i (omega arith)))
 ]
 bad_local {bytes} {i = i} {j} s l (bad_first o {next} e b) =
@@ -142,7 +141,7 @@ stood {bytes} {k} {cs} r f h =
 
 -- .. and with one more, which may have been mended
 mended : {bytes : List ℕ} {k j end : ℕ} {c : Command} {cs : List Command} → StandTo bytes 0 cs k → length cs < most_commands → k ≤ j
-    → j ≤ length bytes → (ys : List ℕ) → Parsed (take j bytes ++ ys) k (Next c end) → j + length ys ≤ end → Begins bytes j
+    → j ≤ length bytes → (ys : List ℕ) → Parsed (take j bytes ++ ys) k (Ok (c, end)) → j + length ys ≤ end → Begins bytes j
 mended {bytes} {k} {j} {c = c} {cs} r f h l ys p e =
     let size = length-append (take j bytes) ys in let t = length-take-le j bytes l in
     let more = stand_more (stand_local (same_taken bytes ys j l) r h) (reads (take j bytes ++ ys) k p) in
@@ -158,7 +157,7 @@ long_stops {bytes} {k} r f h b = record {
 
 -- the argument 0 behind a 01
 last_zero : (bytes : List ℕ) (j : ℕ) → j ≤ length bytes
-    → let whole = take j bytes ++ (1 ∷ 0 ∷ []) in number whole (j + 1) ≡ Read (get_or whole (j + 1) 0) (j + 1 + 1)
+    → let whole = take j bytes ++ (1 ∷ 0 ∷ []) in number whole (j + 1) ≡ Ok (get_or whole (j + 1) 0, j + 1 + 1)
 last_zero bytes j l =
     let t = length-take-le j bytes l in let zero-there = rw t at (get_or-append-add (take j bytes) (1 ∷ 0 ∷ []) 1 0) in
     number_byte (take j bytes ++ (1 ∷ 0 ∷ [])) (j + 1) (omega (arith, length-append (take j bytes) (1 ∷ 0 ∷ []))) (omega arith)
@@ -172,7 +171,7 @@ before {bytes} {k} {cs = cs} r f h (bad_operation b) =
 before r f h (unknown e n) = inl (stood r (omega arith) (omega arith))
 before {bytes} {k} {j} r f h (bad_first o {next} e b) =
     let p = number_place bytes k e in let q = bad_after bytes next b p.1 in let l = (bad_near bytes next b).0 in
-    let known : (ys : List ℕ) → number (take j bytes ++ (1 ∷ ys)) k ≡ Read (operation_number o) next =
+    let known : (ys : List ℕ) → number (take j bytes ++ (1 ∷ ys)) k ≡ Ok (operation_number o, next) =
     λ ys. number_local bytes k (same_taken bytes (1 ∷ ys) j l) e q in
     let first = bad_mended bytes next b p.1 in let o' = which_known o in
     inl (same_or_not (arguments o) 1

@@ -8,8 +8,8 @@ use native.Mathlib.Omega.{arith}
 use lib.ListN.{length}
 use borrow.Author.Tests.{le-leb, lt-leb}
 use Rattle.encoding.specs.declared.Command.{Command}
-use Rattle.encoding.specs.declared.Reading.{Reading}
-use Rattle.encoding.specs.declared.Reading.TheVariants.{Next, Fault}
+use Rattle.encoding.specs.Numbers.{Reading, fault}
+use Rattle.std.specs.Prelude.{Ok, Err}
 use Rattle.encoding.specs.Batch.{command_at, Batch, commands, bad_at, after, read_from}
 
 -- From place i on, where n commands may still stand: the end of the batch; one command too many; a bad command; a good one.
@@ -23,12 +23,12 @@ module _ (bytes : List ℕ) where
   unfolding read_from
   read_over n i h z = rw (z, lt-leb _ _ h, read_from)
 
-  pub read_fault : (n i j : ℕ) → i < length bytes → (n ≡ 0 → ⊥) → command_at bytes i ≡ Fault j → read_from n bytes i ≡ bad_at j
+  pub read_fault : (n i j : ℕ) → i < length bytes → (n ≡ 0 → ⊥) → command_at bytes i ≡ Err (fault j) → read_from n bytes i ≡ bad_at j
   unfolding read_from
   read_fault zero i j h z e = absurd (z refl)
   read_fault (suc n) i j h z e = rw (lt-leb _ _ h, e, read_from)
 
-  pub read_good : (n i : ℕ) (c : Command) (next : ℕ) → i < length bytes → (n ≡ 0 → ⊥) → command_at bytes i ≡ Next c next
+  pub read_good : (n i : ℕ) (c : Command) (next : ℕ) → i < length bytes → (n ≡ 0 → ⊥) → command_at bytes i ≡ Ok (c, next)
       → read_from n bytes i ≡ after c (read_from (n - 1) bytes next)
   unfolding read_from
   read_good zero i c next h z e = absurd (z refl)
@@ -38,14 +38,14 @@ module _ (bytes : List ℕ) where
 pub data Taken (bytes : List ℕ) : ℕ → ℕ → Batch → Type 0 where
   taken_end : {n i : ℕ} → length bytes ≤ i → Taken bytes n i (commands [])
   taken_over : {i : ℕ} → i < length bytes → Taken bytes 0 i (bad_at i)
-  taken_fault : {n i j : ℕ} → i < length bytes → command_at bytes i ≡ Fault j → Taken bytes (suc n) i (bad_at j)
-  taken_good : {n i next : ℕ} {c : Command} {cs : List Command} → i < length bytes → command_at bytes i ≡ Next c next
+  taken_fault : {n i j : ℕ} → i < length bytes → command_at bytes i ≡ Err (fault j) → Taken bytes (suc n) i (bad_at j)
+  taken_good : {n i next : ℕ} {c : Command} {cs : List Command} → i < length bytes → command_at bytes i ≡ Ok (c, next)
       → Taken bytes n next (commands cs) → Taken bytes (suc n) i (commands (c ∷ cs))
-  taken_bad : {n i j next : ℕ} {c : Command} → i < length bytes → command_at bytes i ≡ Next c next → Taken bytes n next (bad_at j)
+  taken_bad : {n i j next : ℕ} {c : Command} → i < length bytes → command_at bytes i ≡ Ok (c, next) → Taken bytes n next (bad_at j)
       → Taken bytes (suc n) i (bad_at j)
 
 module _ (bytes : List ℕ) where
-  onward : (n i : ℕ) (c : Command) (next : ℕ) → i < length bytes → command_at bytes i ≡ Next c next → (b : Batch) → Taken bytes n next b
+  onward : (n i : ℕ) (c : Command) (next : ℕ) → i < length bytes → command_at bytes i ≡ Ok (c, next) → (b : Batch) → Taken bytes n next b
       → Taken bytes (suc n) i (after c b)
   unfolding after
   onward n i c next h e (commands cs) t = taken_good h e t
@@ -61,9 +61,9 @@ module _ (bytes : List ℕ) where
     | yes h ↦ at_command (command_at bytes i) refl h (taken n)
   ]
     where
-      at_command : (x : Reading) → command_at bytes i ≡ x → i < length bytes → ((next : ℕ) → Taken bytes n next (read_from n bytes next))
+      at_command : (x : Reading Command) → command_at bytes i ≡ x → i < length bytes → ((next : ℕ) → Taken bytes n next (read_from n bytes next))
           → Taken bytes (suc n) i (read_from (suc n) bytes i)
-      at_command (Next c next) e h t =
+      at_command (Ok (c, next)) e h t =
           rw (read_good bytes (suc n) i c next h (λ z. omega arith) e, sub-one (suc n))
           (onward n i c next h e (read_from n bytes next) (t next))
-      at_command (Fault j) e h t = rw (read_fault bytes (suc n) i j h (λ z. omega arith) e) (taken_fault h e)
+      at_command (Err f) e h t = rw (read_fault bytes (suc n) i f.place h (λ z. omega arith) e) (taken_fault h e)

@@ -7,13 +7,14 @@ use Prim.Native.Nat.{ℕ, ◌+◌, ◌*◌, ◌-◌, ◌≤◌, ◌<◌}
 use native.Mathlib.Omega.{arith}
 use lib.ListN.{length, length-append}
 use Rattle.encoding.specs.declared.Command.{Command}
-use Rattle.encoding.specs.declared.Reading.TheVariants.{Next, Fault}
+use Rattle.encoding.specs.declared.Fault.{Fault}
+use Rattle.std.specs.Prelude.{Ok, Err}
 use Rattle.encoding.specs.Batch.{most_commands, command_at, Batch, commands, bad_at, after, read_from, read_batch}
-use Rattle.commands.specs.declared.Scanned.TheVariants.{Commands, BadAt}
 use Rattle.commands.specs.Scanned.{scanned}
 use Rattle.tree.specs.State.{key_end}
-use Rattle.encoding.specs.Numbers.{Bytes}
+use Rattle.encoding.specs.Numbers.{fault, Bytes}
 use Rattle.encoding.proofs.Performs.{AllSmall}
+use Rattle.encoding.proofs.Readings.{one_read, not_wrong}
 use Rattle.numbers.proofs.Shortest.{number_value}
 use Rattle.commands.proofs.Commands.{Parsed, one_argument, two_arguments_case, parsed, command_place, fault_place}
 use Rattle.commands.proofs.Reading.{Taken, taken, taken_end, taken_over, taken_fault, taken_good, taken_bad, read_end, read_good}
@@ -21,7 +22,7 @@ use Rattle.commands.proofs.Reading.{Taken, taken, taken_end, taken_over, taken_f
 -- the commands cs stand in the bytes from place i to the end
 pub data StandFrom (bytes : List ℕ) : ℕ → List Command → Type 0 where
   stand_none : {i : ℕ} → length bytes ≤ i → StandFrom bytes i []
-  stand_some : {i next : ℕ} {c : Command} {cs : List Command} → i < length bytes → command_at bytes i ≡ Next c next → StandFrom bytes next cs
+  stand_some : {i next : ℕ} {c : Command} {cs : List Command} → i < length bytes → command_at bytes i ≡ Ok (c, next) → StandFrom bytes next cs
       → StandFrom bytes i (c ∷ cs)
 
 taken_stand : {bytes : List ℕ} {n i : ℕ} {cs : List Command} → Taken bytes n i (commands cs) → StandFrom bytes i cs × (length cs ≤ n)
@@ -49,14 +50,14 @@ unfolding read_batch
 running_starts {bytes} {cs} e = record { all = refl; ahead = ((read_exactly most_commands bytes 0 cs).0 e).0 }
 
 good_next : {bytes : List ℕ} {i next : ℕ} {c : Command} {cs : List Command} → StandFrom bytes i cs → i < length bytes
-    → command_at bytes i ≡ Next c next → (rest : List Command) × (cs ≡ c ∷ rest) × StandFrom bytes next rest
+    → command_at bytes i ≡ Ok (c, next) → (rest : List Command) × (cs ≡ c ∷ rest) × StandFrom bytes next rest
 good_next (stand_none h) k e = absurd (omega arith)
-good_next {bytes} {next = next} {c = c} (stand_some {next = next'} {c = c'} {cs = cs} h g s) k e =
-    let same : c' ≡ c = cc in let on : next' ≡ next = cc in (cs, ap (λ (d : Command). d ∷ cs) same, rw on at s)
+good_next (stand_some {cs = cs} h g s) k e =
+    let same = one_read g e in (cs, ap (λ (d : Command). d ∷ cs) same.0, rw same.1 at s)
 
-no_fault : {bytes : List ℕ} {i j : ℕ} {cs : List Command} → StandFrom bytes i cs → i < length bytes → command_at bytes i ≡ Fault j → ⊥
+no_fault : {bytes : List ℕ} {i j : ℕ} {cs : List Command} → StandFrom bytes i cs → i < length bytes → command_at bytes i ≡ Err (fault j) → ⊥
 no_fault (stand_none h) k e = omega arith
-no_fault (stand_some h g s) k e = let z : ◌≡◌ {A = ℕ} 0 1 = cc in omega arith
+no_fault (stand_some h g s) k e = not_wrong g e
 
 ends : {bytes : List ℕ} {i : ℕ} {cs : List Command} → StandFrom bytes i cs → length bytes ≤ i → cs ≡ []
 ends (stand_none h) k = refl
@@ -72,14 +73,14 @@ goes_on (stand_some h g s) k = h
 
 module _ {bytes : List ℕ} {cs done rest : List Command} {at : ℕ} (w : Running bytes cs done rest at) where
   -- the command that is read here is the first of the rest, and the loop goes on behind it
-  pub running_good : {c : Command} {next : ℕ} → at < length bytes → command_at bytes at ≡ Next c next
+  pub running_good : {c : Command} {next : ℕ} → at < length bytes → command_at bytes at ≡ Ok (c, next)
       → (more : List Command) × (rest ≡ c ∷ more) × Running bytes cs (done ++ (c ∷ [])) more next
   running_good {c} {next} h e =
       let g = good_next w.ahead h e in
       let all = w.all ∙ ap (λ (l : List Command). done ++ l) g.1 ∙ sym (append_assoc done (c ∷ []) g.0) in
       (g.0, g.1, record { all = all; ahead = g.2 })
 
-  pub running_fault : {j : ℕ} → at < length bytes → command_at bytes at ≡ Fault j → ⊥
+  pub running_fault : {j : ℕ} → at < length bytes → command_at bytes at ≡ Err (fault j) → ⊥
   running_fault h e = no_fault w.ahead h e
 
   pub running_ends : length bytes ≤ at → (rest ≡ []) × (cs ≡ done)
@@ -112,18 +113,18 @@ unfolding read_batch
 batch_bad bytes e = bad_place_lem (rw e at (taken bytes most_commands 0))
 
 -- what was found says what was read
-pub scanned_commands : {k : ℕ} (b : Batch) → scanned b ≡ Commands k → (cs : List Command) × (b ≡ commands cs) × (length cs ≡ k)
+pub scanned_commands : {k : ℕ} (b : Batch) → scanned b ≡ Ok k → (cs : List Command) × (b ≡ commands cs) × (length cs ≡ k)
 unfolding scanned
 scanned_commands (commands cs) e = (cs, refl, cc)
 scanned_commands (bad_at i) e = absurd (let z : ◌≡◌ {A = ℕ} 0 1 = cc in omega arith)
 
-pub scanned_bad : {i : ℕ} (b : Batch) → scanned b ≡ BadAt i → b ≡ bad_at i
+pub scanned_bad : {i : ℕ} (b : Batch) → scanned b ≡ Err (fault i) → b ≡ bad_at i
 unfolding scanned
 scanned_bad (commands cs) e = absurd (let z : ◌≡◌ {A = ℕ} 0 1 = cc in omega arith)
-scanned_bad (bad_at j) e = ap bad_at (cc)
+scanned_bad {i} (bad_at j) e = let same : fault j ≡ fault i = cc in ap (λ (f : Fault). bad_at f.place) same
 
 -- Arguments read from bytes are "at most 4,294,967,295".
-parsed_small : {bytes : List ℕ} {i : ℕ} {c : Command} {next : ℕ} → Bytes bytes → Parsed bytes i (Next c next) → c.first < key_end
+parsed_small : {bytes : List ℕ} {i : ℕ} {c : Command} {next : ℕ} → Bytes bytes → Parsed bytes i (Ok (c, next)) → c.first < key_end
 parsed_small {bytes} b (one_argument {next = mid} o k a f) = omega (arith, number_value bytes mid b f)
 parsed_small {bytes} b (two_arguments_case {next = mid} o k a f g) = omega (arith, number_value bytes mid b f)
 

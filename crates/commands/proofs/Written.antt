@@ -13,10 +13,9 @@ use Prim.Native.Nat.{ℕ, zero, suc, ◌+◌, ◌-◌, ◌≤◌, ◌<◌}
 use native.Mathlib.Omega.{arith}
 use Rattle.tree.specs.State.{key_end}
 use Rattle.tree.proofs.Tests.{same_or_not}
-use Rattle.encoding.specs.declared.Number.TheVariants.{Read}
+use Rattle.std.specs.Prelude.{Ok}
 use Rattle.encoding.specs.declared.Operation.{Operation}
 use Rattle.encoding.specs.declared.Command.{Command}
-use Rattle.encoding.specs.declared.Reading.TheVariants.{Next}
 use Rattle.encoding.specs.Numbers.{Bytes, number}
 use Rattle.encoding.specs.Operations.{operation_number, arguments}
 use Rattle.encoding.specs.Batch.{most_commands, command, last_argument, arguments_at, command_at, commands, read_batch}
@@ -31,7 +30,7 @@ use Rattle.commands.proofs.Running.{StandFrom, stand_none, stand_some, read_exac
 -- What is written is read.
 module _ (xs ys : List ℕ) where
   -- a number, with its place given by an equation
-  number_at : (i v : ℕ) → i ≡ length xs → v < key_end → number (xs ++ (bytes_of v ++ ys)) i ≡ Read v (i + length (bytes_of v))
+  number_at : (i v : ℕ) → i ≡ length xs → v < key_end → number (xs ++ (bytes_of v ++ ys)) i ≡ Ok (v, i + length (bytes_of v))
   number_at i v e h = rw (e, ← append_assoc) (number_reads xs ys v h)
 
 bytes_some : (v : ℕ) → 0 < length (bytes_of v)
@@ -48,30 +47,30 @@ module _ (xs ys : List ℕ) (o : Operation) (a b : ℕ) (ha : a < key_end) (hb :
   abbrev whole : List ℕ → List ℕ
   whole rest = xs ++ (ob ++ (ab ++ rest))
 
-  read_operation : (rest : List ℕ) → number (whole rest) (length xs) ≡ Read (operation_number o) (length xs + length ob)
+  read_operation : (rest : List ℕ) → number (whole rest) (length xs) ≡ Ok (operation_number o, length xs + length ob)
   read_operation rest = number_at xs (ab ++ rest) (length xs) (operation_number o) refl (omega (arith, operation_small o))
 
-  read_first : (rest : List ℕ) → number (whole rest) (length xs + length ob) ≡ Read a (length xs + length ob + length ab)
+  read_first : (rest : List ℕ) → number (whole rest) (length xs + length ob) ≡ Ok (a, length xs + length ob + length ab)
   read_first rest = rw (← append_assoc xs ob (ab ++ rest)) (number_at (xs ++ ob) rest (length xs + length ob) a (sym (length-append xs ob)) ha)
 
   read_meant : (rest : List ℕ) → command_at (whole rest) (length xs) ≡ arguments_at (whole rest) o (length xs + length ob)
   read_meant rest = meant (whole rest) (length xs) (read_operation rest) (which_known o)
 
-  pub one_read : arguments o ≡ 1 → command_at (whole ys) (length xs) ≡ Next (command o a 0) (length xs + length ob + length ab)
+  pub one_read : arguments o ≡ 1 → command_at (whole ys) (length xs) ≡ Ok (command o a 0, length xs + length ob + length ab)
   one_read e = read_meant ys ∙ only (whole ys) o (length xs + length ob) a _ e (read_first ys)
 
   pub two_read : arguments o ≢ 1
-      → command_at (whole (bytes_of b ++ ys)) (length xs) ≡ Next (command o a b) (length xs + length ob + length ab + length (bytes_of b))
+      → command_at (whole (bytes_of b ++ ys)) (length xs) ≡ Ok (command o a b, length xs + length ob + length ab + length (bytes_of b))
   unfolding last_argument
   two_read n =
       let rest = bytes_of b ++ ys in
       let place : length (xs ++ (ob ++ ab)) ≡ length xs + length ob + length ab = length-append xs (ob ++ ab) ∙ omega (arith, length-append ob ab) in
       let form : (xs ++ (ob ++ ab)) ++ rest ≡ whole rest = append_assoc xs (ob ++ ab) rest ∙ ap (λ (l : List ℕ). xs ++ l) (append_assoc ob ab rest) in
-      let last : number (whole rest) (length xs + length ob + length ab) ≡ Read b (length xs + length ob + length ab + length (bytes_of b)) =
+      let last : number (whole rest) (length xs + length ob + length ab) ≡ Ok (b, length xs + length ob + length ab + length (bytes_of b)) =
       rw (← form) (number_at (xs ++ (ob ++ ab)) ys _ b (sym place) hb) in
       read_meant rest ∙ two (whole rest) o (length xs + length ob) a _ n (read_first rest) ∙ rw last
 
-command_written : (xs ys : List ℕ) (c : Command) → Fits c → command_at (xs ++ (command_bytes c ++ ys)) (length xs) ≡ Next c (length xs + length (command_bytes c))
+command_written : (xs ys : List ℕ) (c : Command) → Fits c → command_at (xs ++ (command_bytes c ++ ys)) (length xs) ≡ Ok (c, length xs + length (command_bytes c))
 unfolding command_bytes second_bytes
 command_written xs ys c f =
     let o = c.operation in let a = c.first in let b = c.second in
@@ -82,7 +81,7 @@ command_written xs ys c f =
     let form : command_bytes c ≡ ob ++ ab = rw none (ap (λ (l : List ℕ). ob ++ l) (append-nil ab)) in
     let same : command o a 0 ≡ c = ap (command o a) (sym (f.second_none e)) in
     let place : length xs + length (command_bytes c) ≡ length xs + length ob + length ab = omega (arith, ap length form, length-append ob ab) in
-    rw (place, form, append_assoc ob ab ys) (one_read xs ys o a b f.first_small f.second_small e ∙ ap (λ (d : Command). Next d (length xs + length ob + length ab)) same))
+    rw (place, form, append_assoc ob ab ys) (one_read xs ys o a b f.first_small f.second_small e ∙ ap (λ (d : Command). Ok (d, length xs + length ob + length ab)) same))
     (λ n.
     let some : second_bytes o b ≡ bytes_of b = rw (ne_eqb _ _ n, second_bytes) in
     let form : command_bytes c ≡ ob ++ (ab ++ bytes_of b) = rw some refl in
@@ -110,7 +109,7 @@ one_command c f = rw (← append-nil (command_bytes c)) (written_read (c ∷ [])
 
 -- What is read was written.
 module _ (bytes : List ℕ) (b : Bytes bytes) where
-  number_drop : (at : ℕ) {v next : ℕ} → number bytes at ≡ Read v next → drop at bytes ≡ bytes_of v ++ drop next bytes
+  number_drop : (at : ℕ) {v next : ℕ} → number bytes at ≡ Ok (v, next) → drop at bytes ≡ bytes_of v ++ drop next bytes
   number_drop at {v} {next} e =
       let p = number_place bytes at e in
       let n : at + (next - at) ≡ next = omega arith in
@@ -121,7 +120,7 @@ module _ (bytes : List ℕ) (b : Bytes bytes) where
     pub fits : Fits c
     pub parts : drop i bytes ≡ command_bytes c ++ drop next bytes
 
-  parsed_parts : {i next : ℕ} {c : Command} → Parsed bytes i (Next c next) → Parts i c next
+  parsed_parts : {i next : ℕ} {c : Command} → Parsed bytes i (Ok (c, next)) → Parts i c next
   unfolding command_bytes second_bytes
   parsed_parts {i} {next} (one_argument {n = n} {next = mid} {op = o} e k h f) =
       let none : second_bytes o 0 ≡ [] = rw (eq-eqb _ _ h, second_bytes) in record {

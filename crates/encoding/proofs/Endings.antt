@@ -7,9 +7,11 @@ use lib.Dec.{ltb}
 use lib.ListN.{length}
 use borrow.Author.Tests.{ltb-true, ltb-false, lt-ltb, le-ltb}
 use Prim.Native.Nat.{ℕ, ◌*◌, ◌≤◌, ◌<◌}
+use Rattle.std.specs.Prelude.{Result, Ok, Err}
 use Rattle.tree.specs.declared.Refusal.TheVariants.{PoolLength, RulesBroken, BadCommand, FewAnswers}
-use Rattle.format.specs.declared.Audited.{Audited}
-use Rattle.format.specs.declared.Audited.TheVariants.{Length, Broken, Passed}
+use Rattle.format.specs.declared.Header.{Header}
+use Rattle.format.specs.declared.Unsound.{Unsound}
+use Rattle.format.specs.declared.Unsound.TheVariants.{Length, Broken}
 use Rattle.format.specs.Words.{length_good}
 use Rattle.format.specs.Audit.{rules_hold, audited}
 use Rattle.format.proofs.AuditCases.{Case, wrong_length, rules_broken, rules_kept, audited_case, audited_length, audited_broken, audited_kept}
@@ -47,10 +49,10 @@ module _ (p bytes out : List ℕ) where
   unfolding batch
   ending = go (audited_case p)
     where
-      go : {a : Audited} → Case p a → Ending p bytes out (elim a [
-        | Length ↦ refused PoolLength p out
-        | Broken ↦ batch_read (read_batch bytes) p out (λ cs. refused RulesBroken p out)
-        | Passed h ↦ batch_read (read_batch bytes) p out (λ cs. called cs p out)
+      go : {a : Result Header Unsound} → Case p a → Ending p bytes out (elim a [
+        | Err Length ↦ refused PoolLength p out
+        | Err Broken ↦ batch_read (read_batch bytes) p out (λ cs. refused RulesBroken p out)
+        | Ok h ↦ batch_read (read_batch bytes) p out (λ cs. called cs p out)
       ])
       go (wrong_length h) = length_refused h
       go (rules_broken h f) = read_ending h _ (λ cs e r. rules_refused h e r f)
@@ -66,7 +68,7 @@ module _ (p bytes out : List ℕ) where
   unfolding batch
   beyond l = go (audited_case p) refl
     where
-      go : {a : Audited} → Case p a → audited p ≡ a → (rest : List Command → Call) × (batch p bytes out ≡ batch_read (read_batch bytes) p out rest)
+      go : {a : Result Header Unsound} → Case p a → audited p ≡ a → (rest : List Command → Call) × (batch p bytes out ≡ batch_read (read_batch bytes) p out rest)
       go (wrong_length h) e = absurd (false≢true (sym h ∙ l))
       go (rules_broken h f) e = ((λ cs. refused RulesBroken p out), rw (e, batch))
       go (rules_kept h f) e = ((λ cs. called cs p out), rw (e, batch))

@@ -6,3 +6,4 @@ pub mod AnswerWords
 pub mod Singly
 pub mod Worked
 pub mod Decides
+pub mod Readings

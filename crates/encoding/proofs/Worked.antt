@@ -8,8 +8,8 @@ use mathlib.Core.Option.{Option, none, some}
 use lib.Dec.{eqb}
 use lib.ListN.{replicate}
 use Prim.Native.Nat.{ℕ, zero, suc, ◌*◌}
-use Rattle.encoding.specs.declared.Number.{Number}
-use Rattle.encoding.specs.declared.Number.TheVariants.{Read, Wrong}
+use Rattle.encoding.specs.Numbers.{Reading}
+use Rattle.std.specs.Prelude.{Ok, Err}
 use Rattle.format.proofs.Rows.{pool, Row, row, all_given, all_said}
 use Rattle.format.specs.Words.{header, slot, free_slot, header_of, slot_at, slots_in, length_good, in_tree, in_chain, in_top, root_of, shown_slot, shown_header, slot_words, slots_from, words_of}
 use Rattle.format.specs.Audit.{is_slot, follow, chain, chain_ends, tree_found, chain_found, slots_of, bare, all, all_from, same, rule_once, free_words, rule_free, children, rule_children, leaf_keys, routed, rule_order, well_weighed, root_weighed, rule_weights, sums_of, root_sums, rule_sums, rule_level, rules, all_true, rules_under, found_weight, tree_of, top_of, state_under, state_of, audited}
@@ -119,9 +119,9 @@ red_slots words s zero = []
 red_slots words s (suc n) = elim (eqb (slot_at words s).weight 0) [ true ↦ s ∷ red_slots words (suc s) n | false ↦ red_slots words (suc s) n ]
 
 -- a number read, as its value and the place after it, or nothing
-abbrev number_words : Number → List ℕ
-number_words (Read v i) = v ∷ i ∷ []
-number_words (Wrong i) = []
+abbrev number_words : Reading ℕ → List ℕ
+number_words (Ok (v, i)) = v ∷ i ∷ []
+number_words (Err f) = []
 
 abbrev first_four : List ℕ
 first_four = 2 ∷ 10 ∷ 2 ∷ 20 ∷ 2 ∷ 30 ∷ 2 ∷ 40 ∷ []

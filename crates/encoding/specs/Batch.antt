@@ -1,20 +1,14 @@
 -- Document 01, The batch: commands and their reading (RULES 7), a call's refusals in order, and what a call leaves in the pool and the
 -- answers (RULES 8, 9); 02 (vii)'s commands among them (RULES 18).
-use Rattle.std.specs.Prelude.{true, false, List, [], ◌∷◌, ◌++◌, eqb, leb, ltb, length, drop, ℕ, zero, suc, ◌*◌}
-use Rattle.encoding.specs.declared.Number.{Number}
-use Rattle.encoding.specs.declared.Number.TheVariants.{Read, Wrong}
+use Rattle.std.specs.Prelude.{true, false, List, [], ◌∷◌, ◌++◌, eqb, leb, ltb, length, drop, ℕ, zero, suc, ◌*◌, Option, Some, None, Ok, Err}
 use Rattle.encoding.specs.declared.Operation.{Operation}
 use Rattle.encoding.specs.declared.Operation.TheVariants.{Search, Insert, Delete, Step, Settle, AtOrAbove, Count, DeleteSpan}
-use Rattle.encoding.specs.declared.Which.{Which}
-use Rattle.encoding.specs.declared.Which.TheVariants.{Known, Unknown}
 use Rattle.encoding.specs.declared.Command.{Command}
-use Rattle.encoding.specs.declared.Reading.{Reading}
-use Rattle.encoding.specs.declared.Reading.TheVariants.{Next, Fault}
 use Rattle.encoding.specs.Operations.{arguments, which}
-use Rattle.format.specs.declared.Audited.TheVariants.{Length, Broken, Passed}
+use Rattle.format.specs.declared.Unsound.TheVariants.{Length, Broken}
 use Rattle.format.specs.Words.{words_of}
 use Rattle.format.specs.Audit.{state_of, audited}
-use Rattle.encoding.specs.Numbers.{number}
+use Rattle.encoding.specs.Numbers.{Reading, fault, number}
 use Rattle.tree.specs.declared.Refusal.{Refusal}
 use Rattle.tree.specs.declared.Refusal.TheVariants.{PoolLength, RulesBroken, BadCommand, FewAnswers}
 use Rattle.tree.specs.declared.Answer.{Answer}
@@ -32,33 +26,33 @@ abbrev pub command : Operation → ℕ → ℕ → Command
 command op a b = record { operation = op; first = a; second = b }
 
 -- the last argument of operation op, and the first of two
-unfoldable pub last_argument : Operation → ℕ → Number → Reading
-last_argument op a (Read b next) = Next (command op a b) next
-last_argument op a (Wrong i) = Fault i
+unfoldable pub last_argument : Operation → ℕ → Reading ℕ → Reading Command
+last_argument op a (Ok (b, next)) = Ok (command op a b, next)
+last_argument op a (Err f) = Err f
 
-unfoldable pub only_argument : Operation → Number → Reading
-only_argument op (Read a next) = Next (command op a 0) next
-only_argument op (Wrong i) = Fault i
+unfoldable pub only_argument : Operation → Reading ℕ → Reading Command
+only_argument op (Ok (a, next)) = Ok (command op a 0, next)
+only_argument op (Err f) = Err f
 
-unfoldable pub two_arguments : List ℕ → Operation → Number → Reading
-two_arguments bytes op (Read a next) = last_argument op a (number bytes next)
-two_arguments bytes op (Wrong i) = Fault i
+unfoldable pub two_arguments : List ℕ → Operation → Reading ℕ → Reading Command
+two_arguments bytes op (Ok (a, next)) = last_argument op a (number bytes next)
+two_arguments bytes op (Err f) = Err f
 
 -- the arguments of operation op, one or two, from place `next` on
-unfoldable pub arguments_at : List ℕ → Operation → ℕ → Reading
+unfoldable pub arguments_at : List ℕ → Operation → ℕ → Reading Command
 arguments_at bytes op next = elim (eqb (arguments op) 1) [ true ↦ only_argument op (number bytes next) | false ↦ two_arguments bytes op (number bytes next) ]
 
 -- the operation whose number began at place i and ended before `next`, with its arguments
-unfoldable pub meant_at : List ℕ → ℕ → ℕ → Which → Reading
-meant_at bytes i next Unknown = Fault i
-meant_at bytes i next (Known op) = arguments_at bytes op next
+unfoldable pub meant_at : List ℕ → ℕ → ℕ → Option Operation → Reading Command
+meant_at bytes i next None = Err (fault i)
+meant_at bytes i next (Some op) = arguments_at bytes op next
 
-unfoldable pub operation_at : List ℕ → ℕ → Number → Reading
-operation_at bytes i (Read n next) = meant_at bytes i next (which n)
-operation_at bytes i (Wrong j) = Fault j
+unfoldable pub operation_at : List ℕ → ℕ → Reading ℕ → Reading Command
+operation_at bytes i (Ok (n, next)) = meant_at bytes i next (which n)
+operation_at bytes i (Err f) = Err f
 
 -- RULES 7.4: "A command is an operation number and its arguments."
-unfoldable pub command_at : List ℕ → ℕ → Reading
+unfoldable pub command_at : List ℕ → ℕ → Reading Command
 command_at bytes i = operation_at bytes i (number bytes i)
 
 -- a batch read whole: its commands, or the byte at which it goes wrong
@@ -77,7 +71,7 @@ unfoldable pub read_from : ℕ → List ℕ → ℕ → Batch
 read_from zero bytes i = elim (leb (length bytes) i) [ true ↦ commands [] | false ↦ bad_at i ]
 read_from (suc n) bytes i = elim (leb (length bytes) i) [
   | true ↦ commands []
-  | false ↦ elim (command_at bytes i) [ Next c next ↦ after c (read_from n bytes next) | Fault j ↦ bad_at j ]
+  | false ↦ elim (command_at bytes i) [ Ok (c, next) ↦ after c (read_from n bytes next) | Err f ↦ bad_at f.place ]
 ]
 
 unfoldable pub read_batch : List ℕ → Batch
@@ -139,7 +133,7 @@ batch_read (commands cs) p out rest = elim (ltb (length out) (2 * length cs)) [ 
 -- The audit says 1 before them and 2 after them (RULES 9.1 and 9.2).
 unfoldable pub batch : List ℕ → List ℕ → List ℕ → Call
 batch p bytes out = elim (audited p) [
-  | Length ↦ refused PoolLength p out
-  | Broken ↦ batch_read (read_batch bytes) p out (λ cs. refused RulesBroken p out)
-  | Passed h ↦ batch_read (read_batch bytes) p out (λ cs. called cs p out)
+  | Err Length ↦ refused PoolLength p out
+  | Err Broken ↦ batch_read (read_batch bytes) p out (λ cs. refused RulesBroken p out)
+  | Ok h ↦ batch_read (read_batch bytes) p out (λ cs. called cs p out)
 ]

@@ -4,63 +4,49 @@
 ghost use Rattle.std.specs.Prelude.{◌≡◌};
 ghost use Rattle.encoding.specs.Operations.{operation_number, arguments, which};
 
-// A number read from bytes: its value and where the next begins, or the place where it goes wrong.
-#[derive(Clone, Copy)]
-pub enum Number {
-    Read(u32, usize),
-    Wrong(usize),
+// The place at which bytes go wrong.
+#[derive(Clone, Copy, PartialEq, Eq)]
+pub struct Fault {
+    pub place: usize,
 }
+
+// A value read from bytes and where the next begins, or their fault.
+pub type Reading<T> = Result<(T, usize), Fault>;
 
 // 01: "1 search key; 2 insert key; 3 delete key; 4 step slot kind; 5 settle budget." 02 (vii): 6 with a key, 7 and 8 with the two ends of a span.
-#[derive(Clone, Copy)]
+#[derive(Clone, Copy, PartialEq, Eq)]
 pub enum Operation {
-    Search,
-    Insert,
-    Delete,
-    Step,
-    Settle,
-    AtOrAbove,
-    Count,
-    DeleteSpan,
-}
-
-// The operation that a number names, or none.
-#[derive(Clone, Copy)]
-pub enum Which {
-    Known(Operation),
-    Unknown,
+    Search = 1,
+    Insert = 2,
+    Delete = 3,
+    Step = 4,
+    Settle = 5,
+    AtOrAbove = 6,
+    Count = 7,
+    DeleteSpan = 8,
 }
 
 impl Operation {
-    pub const SEARCH: u32 = 1;
+    pub const SEARCH: u32 = Operation::Search as u32;
 
-    pub const INSERT: u32 = 2;
+    pub const INSERT: u32 = Operation::Insert as u32;
 
-    pub const DELETE: u32 = 3;
+    pub const DELETE: u32 = Operation::Delete as u32;
 
-    pub const STEP: u32 = 4;
+    pub const STEP: u32 = Operation::Step as u32;
 
-    pub const SETTLE: u32 = 5;
+    pub const SETTLE: u32 = Operation::Settle as u32;
 
-    pub const AT_OR_ABOVE: u32 = 6;
+    pub const AT_OR_ABOVE: u32 = Operation::AtOrAbove as u32;
 
-    pub const COUNT: u32 = 7;
+    pub const COUNT: u32 = Operation::Count as u32;
 
-    pub const DELETE_SPAN: u32 = 8;
+    pub const DELETE_SPAN: u32 = Operation::DeleteSpan as u32;
 
     pub fn number(self) -> u32
         ensures { result ≡ operation_number self }
     {
-        match self {
-            Operation::Search => Operation::SEARCH,
-            Operation::Insert => Operation::INSERT,
-            Operation::Delete => Operation::DELETE,
-            Operation::Step => Operation::STEP,
-            Operation::Settle => Operation::SETTLE,
-            Operation::AtOrAbove => Operation::AT_OR_ABOVE,
-            Operation::Count => Operation::COUNT,
-            Operation::DeleteSpan => Operation::DELETE_SPAN,
-        }
+        self as u32
     }
 
     // How many arguments it has.
@@ -79,35 +65,28 @@ impl Operation {
         }
     }
 
-    // The operation that a number names.
-    pub fn named(number: u32) -> Which
+    // The operation that a number names, if one does.
+    pub fn named(number: u32) -> Option<Operation>
         ensures { result ≡ which number }
     {
         match number {
-            Operation::SEARCH => Which::Known(Operation::Search),
-            Operation::INSERT => Which::Known(Operation::Insert),
-            Operation::DELETE => Which::Known(Operation::Delete),
-            Operation::STEP => Which::Known(Operation::Step),
-            Operation::SETTLE => Which::Known(Operation::Settle),
-            Operation::AT_OR_ABOVE => Which::Known(Operation::AtOrAbove),
-            Operation::COUNT => Which::Known(Operation::Count),
-            Operation::DELETE_SPAN => Which::Known(Operation::DeleteSpan),
-            _ => Which::Unknown,
+            Operation::SEARCH => Some(Operation::Search),
+            Operation::INSERT => Some(Operation::Insert),
+            Operation::DELETE => Some(Operation::Delete),
+            Operation::STEP => Some(Operation::Step),
+            Operation::SETTLE => Some(Operation::Settle),
+            Operation::AT_OR_ABOVE => Some(Operation::AtOrAbove),
+            Operation::COUNT => Some(Operation::Count),
+            Operation::DELETE_SPAN => Some(Operation::DeleteSpan),
+            _ => None,
         }
     }
 }
 
 // An operation and its arguments; one that the operation does not have is 0.
-#[derive(Clone, Copy)]
+#[derive(Clone, Copy, PartialEq, Eq)]
 pub struct Command {
     pub operation: Operation,
     pub first: u32,
     pub second: u32,
-}
-
-// A command read from bytes and where the next begins, or the place of its fault.
-#[derive(Clone, Copy)]
-pub enum Reading {
-    Next(Command, usize),
-    Fault(usize),
 }

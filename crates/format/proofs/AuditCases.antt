@@ -10,8 +10,9 @@ use native.Mathlib.Omega.{arith}
 use lib.ListN.{get_or}
 use Rattle.tree.specs.State.{State, Sound}
 use Rattle.format.specs.declared.Header.{Header}
-use Rattle.format.specs.declared.Audited.{Audited}
-use Rattle.format.specs.declared.Audited.TheVariants.{Length, Broken, Passed}
+use Rattle.std.specs.Prelude.{Result, Ok, Err}
+use Rattle.format.specs.declared.Unsound.{Unsound}
+use Rattle.format.specs.declared.Unsound.TheVariants.{Length, Broken}
 use Rattle.format.specs.Words.{header_of, length_good}
 use Rattle.format.specs.Shows.{Shows, PoolShows}
 use Rattle.format.specs.Audit.{rules_hold, state_of, audited, audited_code, audit_code}
@@ -21,10 +22,22 @@ use Rattle.format.proofs.Rules.{rules_show, show_rules}
 abbrev pub Words32 : List ℕ → Type 0
 Words32 p = (i : ℕ) → get_or p i 0 < 2 ^ 32
 
-pub data Case (p : List ℕ) : Audited → Type 0 where
-  wrong_length : length_good p ≡ false → Case p Length
-  rules_broken : length_good p ≡ true → rules_hold p ≡ false → Case p Broken
-  rules_kept : length_good p ≡ true → rules_hold p ≡ true → Case p (Passed (header_of p))
+pub data Case (p : List ℕ) : Result Header Unsound → Type 0 where
+  wrong_length : length_good p ≡ false → Case p (Err Length)
+  rules_broken : length_good p ≡ true → rules_hold p ≡ false → Case p (Err Broken)
+  rules_kept : length_good p ≡ true → rules_hold p ≡ true → Case p (Ok (header_of p))
+
+-- Where nothing more is given, the code tells all.
+pub told_by_code : (r s : Result (Unit {0}) Unsound) → audited_code r ≡ audited_code s → r ≡ s
+told_by_code (Ok a) (Ok b) e = refl
+told_by_code (Ok a) (Err Length) e = absurd (omega arith)
+told_by_code (Ok a) (Err Broken) e = absurd (omega arith)
+told_by_code (Err Length) (Ok b) e = absurd (omega arith)
+told_by_code (Err Length) (Err Length) e = refl
+told_by_code (Err Length) (Err Broken) e = absurd (omega arith)
+told_by_code (Err Broken) (Ok b) e = absurd (omega arith)
+told_by_code (Err Broken) (Err Length) e = absurd (omega arith)
+told_by_code (Err Broken) (Err Broken) e = refl
 
 module _ (p : List ℕ) where
   pub audited_case : Case p (audited p)
@@ -37,32 +50,32 @@ module _ (p : List ℕ) where
       go true true e f = rw (e, f, audited) (rules_kept e f)
 
   -- the other way round
-  pub audited_length : length_good p ≡ false → audited p ≡ Length
+  pub audited_length : length_good p ≡ false → audited p ≡ Err Length
   unfolding audited
   audited_length h = rw (h, audited)
 
-  pub audited_broken : length_good p ≡ true → rules_hold p ≡ false → audited p ≡ Broken
+  pub audited_broken : length_good p ≡ true → rules_hold p ≡ false → audited p ≡ Err Broken
   unfolding audited
   audited_broken h e = rw (h, e, audited)
 
-  pub audited_kept : length_good p ≡ true → rules_hold p ≡ true → audited p ≡ Passed (header_of p)
+  pub audited_kept : length_good p ≡ true → rules_hold p ≡ true → audited p ≡ Ok (header_of p)
   unfolding audited
   audited_kept h e = rw (h, e, audited)
 
-  pub audited_passed : {S : State} → Sound S → PoolShows p S → audited p ≡ Passed (header_of p)
+  pub audited_passed : {S : State} → Sound S → PoolShows p S → audited p ≡ Ok (header_of p)
   audited_passed sound shows = let g = show_rules sound shows in audited_kept g.0 g.1
 
 -- What a caller knows of the words by the answer.
-case_length : {p : List ℕ} → Case p Length → length_good p ≡ false
+case_length : {p : List ℕ} → Case p (Err Length) → length_good p ≡ false
 case_length (wrong_length h) = h
 
-pub length_wrong : (p : List ℕ) → audited p ≡ Length → length_good p ≡ false
+pub length_wrong : (p : List ℕ) → audited p ≡ Err Length → length_good p ≡ false
 length_wrong p e = case_length (rw e at (audited_case p))
 
-case_broken : {p : List ℕ} → Case p Broken → (length_good p ≡ true) × (rules_hold p ≡ false)
+case_broken : {p : List ℕ} → Case p (Err Broken) → (length_good p ≡ true) × (rules_hold p ≡ false)
 case_broken (rules_broken h f) = (h, f)
 
-pub rules_are_broken : (p : List ℕ) → audited p ≡ Broken → (length_good p ≡ true) × (rules_hold p ≡ false)
+pub rules_are_broken : (p : List ℕ) → audited p ≡ Err Broken → (length_good p ≡ true) × (rules_hold p ≡ false)
 rules_are_broken p e = case_broken (rw e at (audited_case p))
 
 pub record Kept (p : List ℕ) (h : Header) : Type 0 where
@@ -72,12 +85,12 @@ pub record Kept (p : List ℕ) (h : Header) : Type 0 where
   pub sound : Sound (state_of p)
   pub shows : Shows h p (state_of p)
 
-case_kept : {p : List ℕ} {h : Header} → Words32 p → Case p (Passed h) → Kept p h
+case_kept : {p : List ℕ} {h : Header} → Words32 p → Case p (Ok h) → Kept p h
 case_kept {p} words (rules_kept g f) =
     let S = rules_show (header_of p) p g f words in
     record { length_good_holds = g; rules_hold_holds = f; header_is = refl; sound = S.0; shows = S.1 }
 
-pub rules_are_kept : (p : List ℕ) {h : Header} → Words32 p → audited p ≡ Passed h → Kept p h
+pub rules_are_kept : (p : List ℕ) {h : Header} → Words32 p → audited p ≡ Ok h → Kept p h
 rules_are_kept p words e = case_kept words (rw e at (audited_case p))
 
 -- The same by the code.
@@ -85,7 +98,7 @@ pub code_kept : (p : List ℕ) → Words32 p → audit_code p ≡ 0 → Kept p (
 unfolding audit_code
 code_kept p words = go (audited_case p)
   where
-    go : {r : Audited} → Case p r → audited_code r ≡ 0 → Kept p (header_of p)
+    go : {r : Result Header Unsound} → Case p r → audited_code r ≡ 0 → Kept p (header_of p)
     go (wrong_length h) e = absurd (omega arith)
     go (rules_broken h f) e = absurd (omega arith)
     go (rules_kept h f) e = case_kept words (rules_kept h f)
@@ -94,7 +107,7 @@ pub code_broken : (p : List ℕ) → length_good p ≡ true → audit_code p ≢
 unfolding audit_code
 code_broken p l = go (audited_case p)
   where
-    go : {r : Audited} → Case p r → audited_code r ≢ 0 → rules_hold p ≡ false
+    go : {r : Result Header Unsound} → Case p r → audited_code r ≢ 0 → rules_hold p ≡ false
     go (wrong_length h) n = absurd (false≢true (sym h ∙ l))
     go (rules_broken h f) n = f
     go (rules_kept h f) n = absurd (n refl)
@@ -118,17 +131,17 @@ audit_codes p = record {
   broken_when = (broken (audited_case p), λ h. rw (audited_broken p h.0 h.1));
 }
   where
-    passed : {r : Audited} → Case p r → audited_code r ≡ 0 → (length_good p ≡ true) × (rules_hold p ≡ true)
+    passed : {r : Result Header Unsound} → Case p r → audited_code r ≡ 0 → (length_good p ≡ true) × (rules_hold p ≡ true)
     passed (wrong_length h) e = absurd (omega arith)
     passed (rules_broken h f) e = absurd (omega arith)
     passed (rules_kept h f) e = (h, f)
 
-    wrong : {r : Audited} → Case p r → audited_code r ≡ 1 → length_good p ≡ false
+    wrong : {r : Result Header Unsound} → Case p r → audited_code r ≡ 1 → length_good p ≡ false
     wrong (wrong_length h) e = h
     wrong (rules_broken h f) e = absurd (omega arith)
     wrong (rules_kept h f) e = absurd (omega arith)
 
-    broken : {r : Audited} → Case p r → audited_code r ≡ 2 → (length_good p ≡ true) × (rules_hold p ≡ false)
+    broken : {r : Result Header Unsound} → Case p r → audited_code r ≡ 2 → (length_good p ≡ true) × (rules_hold p ≡ false)
     broken (wrong_length h) e = absurd (omega arith)
     broken (rules_broken h f) e = (h, f)
     broken (rules_kept h f) e = absurd (omega arith)

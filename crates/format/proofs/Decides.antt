@@ -6,8 +6,6 @@ use Rattle.format.proofs.Part.place.Kinds as part-place-kinds
 use Rattle.format.proofs.Part.place.Reads as part-place-reads
 use Rattle.format.proofs.Part.of.Kinds as part-of-kinds
 use Rattle.format.proofs.Part.of.Reads as part-of-reads
-use Rattle.format.proofs.Audited.code.Kinds as audited-code-kinds
-use Rattle.format.proofs.Audited.code.Reads as audited-code-reads
 
 pub header_at_level_decides : DecidesResult 0 header-at-level-kinds.ps header-at-level-kinds.r header-at-level-reads.Post
 header_at_level_decides κs a x y e f p q = equal p q
@@ -17,6 +15,3 @@ part_place_decides κs a x y e f p q = equal p q
 
 pub part_of_decides : DecidesResult 0 part-of-kinds.ps part-of-kinds.r part-of-reads.Post
 part_of_decides κs a x y e f p q = equal p q
-
-pub audited_code_decides : DecidesResult 0 audited-code-kinds.ps audited-code-kinds.r audited-code-reads.Post
-audited_code_decides κs a x y e f p q = equal p q

@@ -1,12 +1,13 @@
 -- Document 01, Audit rules (RULES 2), on the words themselves: one definition a bullet, over what is found by following the words under a
 -- header h, by value. Where the header lies is said at the end, where a pool is audited, with the codes (RULES 9) and what the exported
 -- audit returns (RULES 10).
-use Rattle.std.specs.Prelude.{Bool, true, false, not, ◌&&◌, ◌||◌, List, [], ◌∷◌, ◌++◌, eqb, leb, ltb, length, ℕ, zero, suc, ◌+◌}
+use Rattle.std.specs.Prelude.{Result, Ok, Err, Bool, true, false, not, ◌&&◌, ◌||◌, List, [], ◌∷◌, ◌++◌, eqb, leb, ltb, length, ℕ, zero, suc, ◌+◌}
 use Rattle.format.specs.declared.Header.{Header}
 use Rattle.format.specs.declared.Slot.{Slot}
-use Rattle.format.specs.declared.Audited.{Audited}
-use Rattle.format.specs.declared.Audited.TheVariants.{Length, Broken, Passed}
+use Rattle.format.specs.declared.Unsound.{Unsound}
+use Rattle.format.specs.declared.Unsound.TheVariants.{Length, Broken}
 use Rattle.format.specs.Words.{header_of, slot_at, slots_in, length_good, free_weight, head_of}
+use Rattle.tree.specs.declared.Refusal.{Refusal}
 use Rattle.tree.specs.declared.Refusal.TheVariants.{PoolLength, RulesBroken}
 use Rattle.tree.specs.Codes.{most_level, code}
 use Rattle.tree.specs.Tree.{Tree, leaf, node, count_in}
@@ -171,16 +172,20 @@ state_of p = state_under (header_of p) p
 
 -- RULES 2.8: all that the audit learns, and the one order of refusals 1 and 2 (RULES 9.1 and 9.2). 1: "pool length is not 4 + 4C";
 -- 2: "audit rules broken"; or the header.
-unfoldable pub audited : List ℕ → Audited
+unfoldable pub audited : List ℕ → Result Header Unsound
 audited p = elim (length_good p) [
-  | false ↦ Length
-  | true ↦ elim (rules_hold p) [ false ↦ Broken | true ↦ Passed (header_of p) ]
+  | false ↦ Err Length
+  | true ↦ elim (rules_hold p) [ false ↦ Err Broken | true ↦ Ok (header_of p) ]
 ]
 
-abbrev pub audited_code : Audited → ℕ
-audited_code Length = code PoolLength
-audited_code Broken = code RulesBroken
-audited_code (Passed h) = 0
+abbrev pub refusal_of : Unsound → Refusal
+refusal_of Length = PoolLength
+refusal_of Broken = RulesBroken
+
+-- the code of whatever one of the two causes refuses, the audit or more
+abbrev pub audited_code : {A : Type 0} → Result A Unsound → ℕ
+audited_code (Ok a) = 0
+audited_code (Err u) = code (refusal_of u)
 
 -- RULES 10.1: "audit [gives] 0, 1 or 2"
 unfoldable pub audit_code : List ℕ → ℕ

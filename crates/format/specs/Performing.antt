@@ -5,8 +5,12 @@ use Rattle.tree.specs.declared.Answer.{Answer}
 use Rattle.tree.specs.declared.Answer.TheVariants.{Refused}
 use Rattle.tree.specs.declared.Refusal.{Refusal}
 use Rattle.format.specs.declared.Header.{Header}
-use Rattle.format.specs.declared.Performed.{Performed}
 use Rattle.format.specs.Words.{put_header}
+
+-- What a command answers, and the header that it leaves: who calls it has read the header and will write it.
+pub record Performed : Type 0 where
+  pub answer : Answer
+  pub header : Header
 
 -- the words, and the answer with the header
 pub record Written : Type 0 where

@@ -12,7 +12,9 @@ use native.Mathlib.Decide.{ℕ_discrete}
 use native.Mathlib.Numerals.{sub-one, add-one}
 use Prim.Native.Nat.{ℕ, zero, suc, ◌+◌, ◌-◌, ◌≤◌, ◌<◌}
 use Rattle.tree.specs.declared.Answer.{Answer}
-use Rattle.set.specs.Operations.{code_of, number_of, delete_answer, delete_words, next_answer}
+use Rattle.tree.specs.declared.Answer.TheVariants.{Done, Refused}
+use Rattle.tree.specs.declared.Refusal.{Refusal}
+use Rattle.set.specs.Operations.{code_of, delete_answer, delete_words, next_answer}
 use Rattle.set.specs.Set.{Passing, member, held, OneMore, NextSays, next_is, none_left, Deleted, key_absent, gone}
 use Rattle.set.proofs.Promises.{member_once, more_here, more_elsewhere, next_says, delete_says, delete_codes, delete_passing}
 use Rattle.ledger.specs.Ledger.{notice_keys, Cleared, cleared, attempt_of, cleared_at, and_then, cleared_from}
@@ -116,6 +118,9 @@ at_says {p} g x = go (ℕ_discrete (attempt_of x) 0) (ℕ_discrete (member x p) 
           none_kept = λ z. absurd (omega arith);
         })
 
+none_done : {f : Refusal} {n : ℕ} → Refused f ≡ Done n → ⊥
+none_done e = let z : ◌≡◌ {A = ℕ} 0 1 = cc in absurd (omega arith)
+
 -- The turns of the loop: of all that goes, `count` have gone, and the rest are among the keys from `next` on.
 pub record Turn (total : Cleared) (first next count : ℕ) (p : List ℕ) : Type 0 where
   pub passes : Passing p
@@ -139,29 +144,29 @@ module _ {total : Cleared} {first next count : ℕ} {p : List ℕ} (t : Turn tot
   pub turn_ends : first + notice_keys ≤ next → total ≡ cleared count p
   turn_ends h = done (clear_rest _ next p (λ y i j. absurd (omega arith)))
 
-  pub turn_none : code_of (next_answer p next) ≢ 0 → total ≡ cleared count p
-  turn_none = go (next_says t.passes next)
+  pub turn_none : (f : Refusal) → Refused f ≡ next_answer p next → total ≡ cleared count p
+  turn_none f = go (next_says t.passes next)
     where
-      go : {a : Answer} → NextSays next p a → code_of a ≢ 0 → total ≡ cleared count p
-      go (next_is h s i f) n = absurd (n refl)
-      go (none_left f) n = done (clear_rest _ next p (λ y i j. f y i))
+      go : {a : Answer} → NextSays next p a → Refused f ≡ a → total ≡ cleared count p
+      go (next_is h s i g) e = absurd (none_done e)
+      go (none_left g) e = done (clear_rest _ next p (λ y i j. g y i))
 
-  pub turn_beyond : code_of (next_answer p next) ≡ 0 → first + notice_keys ≤ number_of (next_answer p next) → total ≡ cleared count p
-  turn_beyond = go (next_says t.passes next)
+  pub turn_beyond : (x : ℕ) → Done x ≡ next_answer p next → first + notice_keys ≤ x → total ≡ cleared count p
+  turn_beyond x = go (next_says t.passes next)
     where
-      go : {a : Answer} → NextSays next p a → code_of a ≡ 0 → first + notice_keys ≤ number_of a → total ≡ cleared count p
-      go (next_is h s i f) z e = done (clear_rest _ next p (λ y k j. f y k (omega (arith, t.to_end))))
-      go (none_left f) z e = absurd (omega arith)
+      go : {a : Answer} → NextSays next p a → Done x ≡ a → first + notice_keys ≤ x → total ≡ cleared count p
+      go (next_is {k} h s i f) e l = let same : x ≡ k = cc in done (clear_rest _ next p (λ y m j. f y m (omega (arith, t.to_end))))
+      go (none_left f) e l = absurd (none_done (sym e))
 
   -- on to the next one
-  pub turn_later : code_of (next_answer p next) ≡ 0 → next ≤ number_of (next_answer p next)
-  turn_later = go (next_says t.passes next)
+  pub turn_later : (x : ℕ) → Done x ≡ next_answer p next → next ≤ x
+  turn_later x = go (next_says t.passes next)
     where
-      go : {a : Answer} → NextSays next p a → code_of a ≡ 0 → next ≤ number_of a
-      go (next_is h s i f) z = h
-      go (none_left f) z = absurd (omega arith)
+      go : {a : Answer} → NextSays next p a → Done x ≡ a → next ≤ x
+      go (next_is {k} h s i f) e = let same : x ≡ k = cc in omega arith
+      go (none_left f) e = absurd (none_done (sym e))
 
-  pub turn_on : (x : ℕ) → code_of (next_answer p next) ≡ 0 → x ≡ number_of (next_answer p next) → x < first + notice_keys
+  pub turn_on : (x : ℕ) → Done x ≡ next_answer p next → x < first + notice_keys
       → Turn total first (x + 1) (count + (cleared_at x p).count) (cleared_at x p).words
   turn_on x = go (next_says t.passes next)
     where
@@ -181,16 +186,18 @@ module _ {total : Cleared} {first next count : ℕ} {p : List ℕ} (t : Turn tot
       added : count + ((cleared_at x p).count + later.count) ≡ count + (cleared_at x p).count + later.count
       added = omega arith
 
-      go : {a : Answer} → NextSays next p a → code_of a ≡ 0 → x ≡ number_of a → x < first + notice_keys
+      go : {a : Answer} → NextSays next p a → Done x ≡ a → x < first + notice_keys
           → Turn total first (x + 1) (count + (cleared_at x p).count) (cleared_at x p).words
-      go (next_is h s i f) z e l = record {
-        passes = (at_says t.passes x).passes;
-        from_first = omega (arith, t.from_first);
-        to_end = omega arith;
-        few = omega (arith, t.few, (at_says t.passes x).most);
-        rest = t.rest ∙ (ap (and_then (cleared count p)) (there (omega arith) l (λ y i j. f y i (omega arith))) ∙ ap (λ (k : ℕ). cleared k later.words) added);
-      }
-      go (none_left f) z e l = absurd (omega arith)
+      go (next_is {k} h s i f) e l =
+          let same : x ≡ k = cc in
+          record {
+            passes = (at_says t.passes x).passes;
+            from_first = omega (arith, t.from_first);
+            to_end = omega arith;
+            few = omega (arith, t.few, (at_says t.passes x).most);
+            rest = t.rest ∙ (ap (and_then (cleared count p)) (there (omega arith) l (λ y i j. f y i (omega arith))) ∙ ap (λ (k : ℕ). cleared k later.words) added);
+          }
+      go (none_left f) e l = absurd (none_done (sym e))
 
 -- What all the keys leave, n of them from x on.
 pub record FromSays (n x : ℕ) (p : List ℕ) (c : Cleared) : Type 0 where

@@ -10,7 +10,6 @@ use native.Mathlib.Omega.{arith}
 use Prim.Native.Nat.{ℕ, ◌+◌, ◌*◌}
 use Rattle.tree.specs.declared.Answer.{Answer}
 use Rattle.tree.specs.declared.Answer.TheVariants.{Done, Refused}
-use Rattle.tree.specs.declared.Refusal.{Refusal}
 use Rattle.tree.specs.declared.Refusal.TheVariants.{PoolLength, RulesBroken, OutOfRange}
 use Rattle.set.specs.Operations.{code_of, Call, gives, refuses, length_good, audit_answer}
 use Rattle.set.specs.Set.{Passing, Audits, wrong_length, rules_broken, audit_passed}
@@ -51,15 +50,6 @@ audit_passing p words = go (audit_says p words)
     go (wrong_length l) e = absurd (omega arith)
     go (rules_broken l n) e = absurd (omega arith)
     go (audit_passed l g) e = g
-
--- What is not refused has code 0.
-pub audit_unrefused : (p : List ℕ) → Words32 p → ((f : Refusal) → audit_answer p ≡ Refused f → ⊥) → code_of (audit_answer p) ≡ 0
-audit_unrefused p words = go (audit_says p words)
-  where
-    go : {a : Answer} → Audits p a → ((f : Refusal) → a ≡ Refused f → ⊥) → code_of a ≡ 0
-    go (wrong_length l) n = absurd (n PoolLength refl)
-    go (rules_broken l m) n = absurd (n RulesBroken refl)
-    go (audit_passed l g) n = refl
 
 -- How a judged call ends, `good` being whether its arguments are in their ranges.
 pub data Judged (p : List ℕ) (done : Call) (good : Bool) : Call → Type 0 where

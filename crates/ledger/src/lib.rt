@@ -3,14 +3,14 @@
 #![tactic(auto)]
 
 ghost use Rattle.std.specs.Prelude.{◌≡◌, ◌+◌, ◌≤◌, ◌<◌, IfSome};
-ghost use Rattle.set.specs.Operations.{key_end};
-ghost use Rattle.set.specs.Set.{Passing};
 ghost use Rattle.std.specs.Option.{unwrap_or};
 ghost use Rattle.tree.specs.Codes.{answer_of};
+ghost use Rattle.set.specs.Operations.{key_end};
+ghost use Rattle.set.specs.Set.{Passing};
 ghost use Rattle.ledger.specs.Ledger.{most_attempts, notice_good, arguments_good, notice_keys, lowest_from, asked, may_send, cleared_at, cleared_from, clear_notice};
 
 use set::{audit_answer, delete, insert, next_key, search};
-use tree::{Answer, Refusal};
+use tree::Refusal;
 
 // 02 (iv): "A notice number from 1 to 65,535 and a resident number from 0 to 8,191 are given, with a limit from 1 to 7."
 pub const MOST_NOTICE: u32 = 65535;
@@ -47,8 +47,7 @@ fn lowest_unmarked(pool: &[u32], first: u32, limit: u32) -> Option<u32>
     ensures from_one { IfSome result (λ attempt. 1 ≤ attempt) }
 {
     for attempt in 1..=limit {
-        let found = search(pool, first + attempt);
-        if found.code() != Answer::DONE {
+        if search(pool, first + attempt).is_err() {
             return Some(attempt);
         }
     }
@@ -68,15 +67,14 @@ fn ask(pool: &mut [u32], first: u32, limit: u32) -> Result<u32, Refusal>
     let Some(attempt) = lowest_unmarked(pool, first, limit) else {
         return Err(Refusal::AllUsed);
     };
-    let inserted = insert(pool, first + attempt);
-    if inserted.code() != Answer::DONE {
+    if insert(pool, first + attempt).is_err() {
         return Err(Refusal::NoRoom);
     }
     Ok(attempt)
 }
 
 // May this text go? Yes is code 0 and the attempt, whose mark is then in the set. Refusals in the order 15, 1, 2, 16, 7.
-#[tactic(auto, using(crate::proofs::Arguments::arguments_good_is, crate::proofs::Judging::audit_passing, crate::proofs::Judging::audit_unrefused, crate::proofs::Judging::sending_outside, crate::proofs::Judging::sending_unaudited, crate::proofs::Judging::sending_asks))]
+#[tactic(auto, using(crate::proofs::Arguments::arguments_good_is, crate::proofs::Judging::audit_passing, crate::proofs::Judging::sending_outside, crate::proofs::Judging::sending_unaudited, crate::proofs::Judging::sending_asks))]
 pub fn may_send(pool: &mut [u32], notice: u32, resident: u32, limit: u32) -> Result<u32, Refusal>
     ensures answer { answer_of result ≡ (may_send pool.old notice resident limit).answer }
     ensures pool { pool.new ≡ (may_send pool.old notice resident limit).left }
@@ -84,9 +82,7 @@ pub fn may_send(pool: &mut [u32], notice: u32, resident: u32, limit: u32) -> Res
     if !arguments_good(notice, resident, limit) {
         return Err(Refusal::OutOfRange);
     }
-    if let Answer::Refused(refusal) = audit_answer(pool) {
-        return Err(refusal);
-    }
+    audit_answer(pool)?;
     ask(pool, notice * NOTICE_KEYS + resident * RESIDENT_KEYS, limit)
 }
 
@@ -100,8 +96,7 @@ fn clear_at(pool: &mut [u32], key: u32) -> u32
     if key % RESIDENT_KEYS == 0 {
         return 0;
     }
-    let gone = delete(pool, key);
-    if gone.code() != Answer::DONE {
+    if delete(pool, key).is_err() {
         return 0;
     }
     1
@@ -121,11 +116,9 @@ fn clear_from(pool: &mut [u32], first: u32) -> u32
     let mut next = first as u64;
     let mut count: u32 = 0;
     while next < end {
-        let found = next_key(pool, next as u32);
-        if found.code() != Answer::DONE {
+        let Ok(key) = next_key(pool, next as u32) else {
             return count;
-        }
-        let key = found.number();
+        };
         if end <= key as u64 {
             return count;
         }
@@ -136,7 +129,7 @@ fn clear_from(pool: &mut [u32], first: u32) -> u32
 }
 
 // Clears a notice: code 0 and how many marks went. Refusals in the order 15, 1, 2.
-#[tactic(auto, using(crate::proofs::Arguments::notice_good_is, crate::proofs::Judging::audit_passing, crate::proofs::Judging::audit_unrefused, crate::proofs::Judging::clearing_outside, crate::proofs::Judging::clearing_unaudited, crate::proofs::Judging::clearing_clears), unfolding(crate::specs::Ledger::clearing))]
+#[tactic(auto, using(crate::proofs::Arguments::notice_good_is, crate::proofs::Judging::audit_passing, crate::proofs::Judging::clearing_outside, crate::proofs::Judging::clearing_unaudited, crate::proofs::Judging::clearing_clears), unfolding(crate::specs::Ledger::clearing))]
 pub fn clear_notice(pool: &mut [u32], notice: u32) -> Result<u32, Refusal>
     ensures answer { answer_of result ≡ (clear_notice pool.old notice).answer }
     ensures pool { pool.new ≡ (clear_notice pool.old notice).left }
@@ -144,8 +137,6 @@ pub fn clear_notice(pool: &mut [u32], notice: u32) -> Result<u32, Refusal>
     if !notice_good(notice) {
         return Err(Refusal::OutOfRange);
     }
-    if let Answer::Refused(refusal) = audit_answer(pool) {
-        return Err(refusal);
-    }
+    audit_answer(pool)?;
     Ok(clear_from(pool, notice * NOTICE_KEYS))
 }

@@ -8,7 +8,7 @@ ghost use Rattle.encoding.specs.Batch.{most_commands, read_batch};
 ghost use Rattle.lines.specs.Printed.{line, line_bytes, most_printed, lines, refused_line, how_many, printed};
 
 use arrayvec::ArrayString;
-use commands::{MOST_COMMANDS, Scanned, scan};
+use commands::{MOST_COMMANDS, scan};
 use itoa::Buffer;
 use pool::prepare;
 use tree::Refusal;
@@ -61,15 +61,12 @@ fn put_lines(text: &mut Text, answers: &[u32])
     }
 }
 
-#[tactic(auto, using(crate::proofs::Batches::counted, crate::proofs::Batches::none_counted))]
+#[tactic(auto, using(crate::proofs::Batches::few, crate::proofs::Batches::counted))]
 fn commands_in(bytes: &[u8]) -> usize
     ensures few { result ≤ most_commands }
     ensures count { result ≡ how_many (read_batch bytes.now) }
 {
-    match scan(bytes) {
-        Scanned::Commands(count) => count,
-        Scanned::BadAt(_) => 0,
-    }
+    scan(bytes).unwrap_or(0)
 }
 
 // 01: "The program prepares 127 slots [..] and prints per command one line".
@@ -78,7 +75,7 @@ fn text_of(bytes: &[u8]) -> Text
 {
     let mut pool = [0u32; POOL_WORDS];
     let mut answers = [0u32; ANSWERS];
-    prepare(&mut pool);
+    let _ = prepare(&mut pool);
     let mut text = Text::new();
     match batch::batch(&mut pool, bytes, &mut answers) {
         Ok(()) => {

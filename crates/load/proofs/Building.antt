@@ -8,12 +8,13 @@ use native.Mathlib.Omega.{arith}
 use Rattle.tree.specs.Tree.{Tree, leaf, node, slot_of, size, depth}
 use Rattle.tree.proofs.Depth.{depth_pos}
 use Rattle.format.specs.Words.{slot, put_slot}
-use Rattle.encoding.specs.declared.Number.TheVariants.{Read, Wrong}
+use Rattle.std.specs.Prelude.{Ok, IsOk}
 use Rattle.encoding.specs.Numbers.{number}
+use Rattle.encoding.proofs.Readings.{one_read}
 use Rattle.saved.specs.Saved.{renumbered}
 use Rattle.saved.specs.There.{TreeAt, leaf_at_case, node_at}
 use Rattle.saved.proofs.States.{size_pos}
-use Rattle.saved.proofs.There.{one_read, not_wrong, NodeAt, first_weight, leaf_here, node_here}
+use Rattle.saved.proofs.There.{NodeAt, first_weight, leaf_here, node_here}
 use Rattle.load.specs.declared.Place.{Place}
 use Rattle.load.specs.Building.{put_tree, Buildable, BuildSays}
 use Rattle.load.proofs.Judging.{first_number_lem}
@@ -36,18 +37,17 @@ module _ {bytes : List ℕ} {at s left : ℕ} (B : Buildable bytes at s left) wh
   build_room = omega (arith, B.small, size_pos B.tree)
 
   -- Both numbers read.
-  pub no_first : {j : ℕ} → number bytes at ≡ Wrong j → ⊥
-  no_first e = not_wrong (first_number_lem B.there).reads e
+  pub first_reads : IsOk (number bytes at)
+  first_reads = rw (first_number_lem B.there).reads refl
 
-  module _ {a i : ℕ} (first : number bytes at ≡ Read a i) where
-    pub no_second : {j : ℕ} → number bytes i ≡ Wrong j → ⊥
-    no_second e = go B.there
-      where
-        go : {w n : ℕ} {t : Tree} → TreeAt bytes at w t n → ⊥
-        go (leaf_at_case g h) = not_wrong (rw (one_read g first).1 at h) e
-        go (node_at g h x y) = not_wrong (rw (one_read g first).1 at h) e
+  pub second_reads : {a i : ℕ} → number bytes at ≡ Ok (a, i) → IsOk (number bytes i)
+  second_reads {i = i} first = go B.there
+    where
+      go : {w n : ℕ} {t : Tree} → TreeAt bytes at w t n → IsOk (number bytes i)
+      go (leaf_at_case g h) = rw (← (one_read g first).1, h) refl
+      go (node_at g h x y) = rw (← (one_read g first).1, h) refl
 
-module _ {bytes : List ℕ} {at a i k j : ℕ} (first : number bytes at ≡ Read a i) (second : number bytes i ≡ Read k j) where
+module _ {bytes : List ℕ} {at a i k j : ℕ} (first : number bytes at ≡ Ok (a, i)) (second : number bytes i ≡ Ok (k, j)) where
   -- An even number is a leaf's.
   pub build_leaf : {s : ℕ} {p q : List ℕ} → a % 2 ≡ 0 → q ≡ put_slot p s (slot k 0 0 (a / 2)) → BuildSays bytes at s p q (record { at = j; slot = s + 1 })
   unfolding put_tree renumbered size

@@ -13,22 +13,35 @@ use Rattle.tree.proofs.Depth.{depth_pos, depth_half}
 use Rattle.tree.proofs.Order.{ordered_widen}
 use Rattle.format.specs.declared.Slot.{Slot}
 use Rattle.format.specs.Words.{slot}
-use Rattle.encoding.specs.declared.Number.TheVariants.{Read, Wrong}
-use Rattle.encoding.specs.Numbers.{number}
-use Rattle.pool.specs.declared.Walk.{Walk}
+use Rattle.std.specs.Prelude.{Option, Some, None, Ok, Err}
+use Rattle.std.specs.Result.{result_ok}
+use Rattle.encoding.specs.Numbers.{Reading, number}
+use Rattle.pool.specs.declared.Whole.{Whole}
 use Rattle.pool.specs.Walks.{most_sum}
 use Rattle.pool.specs.Visits.{leaf_test, leaf_walk, join_test, join_walk}
 use Rattle.pool.proofs.Tours.{LeafFine, leaf_facts, leaf_test_lem, leaf_good, leaf_bad, JoinFine, join_facts, join_test_lem, join_good, join_bad}
+use Rattle.encoding.specs.declared.Fault.{Fault}
+use Rattle.encoding.proofs.Readings.{one_read, not_wrong}
 use Rattle.saved.specs.There.{TreeAt, leaf_at_case, node_at}
 use Rattle.saved.proofs.Alike.{alike_size, alike_level}
-use Rattle.saved.proofs.There.{one_read, not_wrong, NodeAt, first_weight, leaf_here, node_here, one_tree}
-use Rattle.load.specs.Judging.{Fits, Found, NoneFound, JudgeSays}
+use Rattle.saved.proofs.There.{NodeAt, first_weight, leaf_here, node_here, one_tree}
+use Rattle.load.specs.Judging.{Fits, Found, NoneFound}
+
+-- what was read, from what is left of it where the fault is dropped
+pub read_ok : {x y : Reading ℕ} {o : Option (ℕ × ℕ)} {v n : ℕ} → x ≡ y → o ≡ result_ok x → o ≡ Some (v, n) → y ≡ Ok (v, n)
+read_ok {x = Ok p} {v = v} {n = n} e f g = let same : ◌≡◌ {A = ℕ × ℕ} p (v, n) = cc in sym e ∙ rw same
+read_ok {x = Err w} e f g = cc
+
+-- what is found of a tree, whose numbers end before place `next`
+abbrev pub WalkSays : List ℕ → ℕ → ℕ → ℕ → ℕ → ℕ → ℕ → Option Whole → Type 0
+WalkSays bytes i lo hi left most next None = NoneFound bytes i lo hi left most
+WalkSays bytes i lo hi left most next (Some f) = Found bytes i lo hi left most next f.rest f.sum
 
 -- The first number of a tree stands where the tree does.
 pub record First (bytes : List ℕ) (i w : ℕ) (t : Tree) : Type 0 where
   pub value : ℕ
   pub next : ℕ
-  pub reads : number bytes i ≡ Read value next
+  pub reads : number bytes i ≡ Ok (value, next)
   pub weight_is : w ≡ value / 2
 
 pub first_number_lem : {bytes : List ℕ} {i j w : ℕ} {t : Tree} → TreeAt bytes i w t j → First bytes i w t
@@ -42,15 +55,15 @@ module _ (bytes : List ℕ) (at lo hi left most : ℕ) where
   pub judge_none : most < 1 → NoneFound bytes at lo hi left most
   judge_none h w t j there fits few = omega (arith, depth_pos t, depth_half t)
 
-  pub judge_cut : {n : ℕ} → number bytes at ≡ Wrong n → NoneFound bytes at lo hi left most
+  pub judge_cut : {f : Fault} → number bytes at ≡ Err f → NoneFound bytes at lo hi left most
   judge_cut e w t j there fits few = not_wrong (first_number_lem there).reads e
 
-  pub judge_cut_2 : {a i n : ℕ} → number bytes at ≡ Read a i → number bytes i ≡ Wrong n → NoneFound bytes at lo hi left most
+  pub judge_cut_2 : {a i : ℕ} {f : Fault} → number bytes at ≡ Ok (a, i) → number bytes i ≡ Err f → NoneFound bytes at lo hi left most
   judge_cut_2 e f w t j (leaf_at_case g h) fits few = not_wrong (rw (one_read g e).1 at h) f
   judge_cut_2 e f w t j (node_at g h a b) fits few = not_wrong (rw (one_read g e).1 at h) f
 
 -- Two numbers were read, and there may be a node.
-module _ (bytes : List ℕ) (at lo hi left most : ℕ) {a i k j : ℕ} (first : number bytes at ≡ Read a i) (second : number bytes i ≡ Read k j)
+module _ (bytes : List ℕ) (at lo hi left most : ℕ) {a i k j : ℕ} (first : number bytes at ≡ Ok (a, i)) (second : number bytes i ≡ Ok (k, j))
     (deep : 1 ≤ left) (many : 1 ≤ most) where
   -- An even number is a leaf's.
   leaf_fine : {w n : ℕ} {t : Tree} → a % 2 ≡ 0 → TreeAt bytes at w t n → Fits lo hi left w t → LeafFine (slot k 0 0 (a / 2)) lo hi
@@ -63,14 +76,14 @@ module _ (bytes : List ℕ) (at lo hi left most : ℕ) {a i k j : ℕ} (first : 
       let l = rw P.tree_is at fits.low in
       record { bare = refl; not_red = omega arith; low = omega arith; from = o.0; below = o.1 }
 
-  pub judge_leaf : a % 2 ≡ 0 → {r : Walk} → r ≡ leaf_walk (slot k 0 0 (a / 2)) lo hi (most - 1) → JudgeSays bytes at lo hi left most j r
+  pub judge_leaf : a % 2 ≡ 0 → {r : Option Whole} → r ≡ leaf_walk (slot k 0 0 (a / 2)) lo hi (most - 1) → WalkSays bytes at lo hi left most j r
   unfolding Ordered Chromatic level size depth
   judge_leaf even {r} e = rw e (go (leaf_test c lo hi) refl)
     where
       c : Slot
       c = slot k 0 0 (a / 2)
 
-      go : (b : Bool) → leaf_test c lo hi ≡ b → JudgeSays bytes at lo hi left most j (leaf_walk c lo hi (most - 1))
+      go : (b : Bool) → leaf_test c lo hi ≡ b → WalkSays bytes at lo hi left most j (leaf_walk c lo hi (most - 1))
       go true f =
           let fine = leaf_facts c lo hi (most - 1) f in
           let z : 2 * (a / 2) ≡ a = omega arith in
@@ -166,11 +179,11 @@ module _ (bytes : List ℕ) (at lo hi left most : ℕ) {a i k j : ℕ} (first : 
             record { same_sum = omega (arith, L.same_sum, S.weight_same, alike_level S.tree_same, B.sum_is); low = L.low }
 
         -- Both were found, just as they are asked for.
-        pub judge_join : x ≡ lo → y ≡ most - 1 → z ≡ more → {r : Walk} → r ≡ join_walk (a / 2) rest al bl → JudgeSays bytes at lo hi left most end r
+        pub judge_join : x ≡ lo → y ≡ most - 1 → z ≡ more → {r : Option Whole} → r ≡ join_walk (a / 2) rest al bl → WalkSays bytes at lo hi left most end r
         unfolding Ordered Chromatic level size depth
         judge_join from same same-2 {r} e = rw e (go (join_test (a / 2) al bl) refl)
           where
-            go : (b : Bool) → join_test (a / 2) al bl ≡ b → JudgeSays bytes at lo hi left most end (join_walk (a / 2) rest al bl)
+            go : (b : Bool) → join_test (a / 2) al bl ≡ b → WalkSays bytes at lo hi left most end (join_walk (a / 2) rest al bl)
             go true f =
                 let fine = join_facts (a / 2) rest al bl f in
                 let z : 2 * (a / 2) + 1 ≡ a = omega arith in

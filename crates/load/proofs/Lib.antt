@@ -4,3 +4,4 @@ pub mod Chaining
 pub mod Building
 pub mod Filling
 pub mod Decides
+mod Places

@@ -4,24 +4,25 @@ use mathlib.Core.Logic.{◌≢◌}
 use mathlib.Core.Bool.{true, false, false≢true}
 use mathlib.Core.List.{List}
 use mathlib.Core.Option.{none}
-use lib.Dec.{eqb, leb}
+use lib.Dec.{leb}
 use lib.ListN.{length}
 use Prim.Native.Nat.{ℕ, ◌+◌, ◌-◌, ◌/◌, ◌≤◌, ◌<◌}
 use native.Mathlib.Omega.{arith}
-use borrow.Author.Tests.{eqb-true, eqb-false, lt-leb, le-leb}
+use borrow.Author.Tests.{lt-leb, le-leb}
 use Rattle.tree.specs.Codes.{most_slots}
 use Rattle.tree.specs.Tree.{Tree, size}
 use Rattle.tree.specs.State.{State, Top, empty, full, nodes, level_top, key_end, Good, GoodTop, Sound}
 use Rattle.tree.proofs.Depth.{depth_half}
-use Rattle.encoding.specs.declared.Number.TheVariants.{Read, Wrong}
+use Rattle.std.specs.Prelude.{Some, None, Ok, Err}
 use Rattle.encoding.specs.Numbers.{Bytes, number}
+use Rattle.encoding.specs.declared.Fault.{Fault}
+use Rattle.encoding.proofs.Readings.{one_read, not_wrong}
 use Rattle.saved.specs.Loaded.{is_count, loaded}
 use Rattle.saved.specs.There.{TreeAt, TopAt, none_at, tree_at, SavedAt}
 use Rattle.saved.proofs.Alike.{alike_size}
 use Rattle.saved.proofs.States.{size_pos, sound_count, count_parts}
-use Rattle.saved.proofs.There.{one_read, not_wrong, one_tree}
+use Rattle.saved.proofs.There.{one_tree}
 use Rattle.saved.proofs.Saves.{none_there}
-use Rattle.load.specs.declared.JudgedTop.TheVariants.{NotGood, Level}
 use Rattle.load.specs.Judging.{Fits, Found, NoneFound, FoundTop, TopSays, Loads}
 use Rattle.load.proofs.Judging.{first_number_lem}
 
@@ -59,36 +60,36 @@ module _ {bytes : List ℕ} {at n : ℕ} where
 -- What judge_top answers.
 module _ (bytes : List ℕ) (at n : ℕ) where
   module _ (no_nodes : n ≡ 0) where
-    pub top_none_past : eqb at (length bytes) ≡ false → TopSays bytes at n NotGood
-    top_none_past f t found = eqb-false at (length bytes) f (top_empty t found no_nodes)
+    pub top_none_past : at ≢ length bytes → TopSays bytes at n None
+    top_none_past f t found = f (top_empty t found no_nodes)
 
-    pub top_none : eqb at (length bytes) ≡ true → {l : ℕ} → l ≡ 0 → TopSays bytes at n (Level l)
+    pub top_none : at ≡ length bytes → {l : ℕ} → l ≡ 0 → TopSays bytes at n (Some l)
     unfolding nodes GoodTop level_top
-    top_none f e = (empty, record { there = rw (← eqb-true at (length bytes) f) none_at; good = tt; nodes_are = sym no_nodes }, e)
+    top_none f e = (empty, record { there = rw (← f) none_at; good = tt; nodes_are = sym no_nodes }, e)
 
   module _ (some-nodes : n ≢ 0) where
-    pub top_cut : {j : ℕ} → number bytes at ≡ Wrong j → TopSays bytes at n NotGood
+    pub top_cut : {f : Fault} → number bytes at ≡ Err f → TopSays bytes at n None
     top_cut e t found = not_wrong (first_number_lem (top_tree t found some-nodes).there).reads e
 
-    module _ {a i : ℕ} (first : number bytes at ≡ Read a i) where
-      pub top_weight : a / 2 ≢ 1 → TopSays bytes at n NotGood
+    module _ {a i : ℕ} (first : number bytes at ≡ Ok (a, i)) where
+      pub top_weight : a / 2 ≢ 1 → TopSays bytes at n None
       top_weight z t found =
           let F = first_number_lem (top_tree t found some-nodes).there in z (omega (arith, F.weight_is, (one_read F.reads first).0))
 
-      pub top_fault : NoneFound bytes at 0 key_end ((n + 1) / 2) n → TopSays bytes at n NotGood
+      pub top_fault : NoneFound bytes at 0 key_end ((n + 1) / 2) n → TopSays bytes at n None
       top_fault absent t found =
           let T = top_tree t found some-nodes in
           absent 1 T.tree (length bytes) T.there (good_fits n T.tree T.nodes_are T.good) (omega (arith, T.nodes_are))
 
       module _ {next rest l : ℕ} (F : Found bytes at 0 key_end ((n + 1) / 2) n next rest l) where
-        pub top_more : rest ≢ 0 → TopSays bytes at n NotGood
+        pub top_more : rest ≢ 0 → TopSays bytes at n None
         top_more z t found =
             let T = top_tree t found some-nodes in
             let S = one_tree T.there F.there in
             z (omega (arith, T.nodes_are, F.nodes_are, alike_size S.tree_same))
 
-        pub top_past : eqb next (length bytes) ≡ false → TopSays bytes at n NotGood
-        top_past f t found = eqb-false next (length bytes) f (sym (one_tree (top_tree t found some-nodes).there F.there).end_same)
+        pub top_past : next ≢ length bytes → TopSays bytes at n None
+        top_past f t found = f (sym (one_tree (top_tree t found some-nodes).there F.there).end_same)
 
         -- The weight of the edge that it hangs from is in the sum.
         weight_is : F.weight ≡ a / 2
@@ -97,12 +98,12 @@ module _ (bytes : List ℕ) (at n : ℕ) where
         pub top_sum : a / 2 ≤ l
         top_sum = omega (arith, weight_is, F.sum_is)
 
-        pub top_whole : rest ≡ 0 → a / 2 ≡ 1 → eqb next (length bytes) ≡ true → {m : ℕ} → m ≡ l - 1 → TopSays bytes at n (Level m)
+        pub top_whole : rest ≡ 0 → a / 2 ≡ 1 → next ≡ length bytes → {m : ℕ} → m ≡ l - 1 → TopSays bytes at n (Some m)
         unfolding nodes GoodTop level_top
         top_whole none_left one-weight f e = (
           full F.tree,
           record {
-            there = tree_at (rw (weight_is ∙ one-weight, eqb-true next (length bytes) f) at F.there);
+            there = tree_at (rw (weight_is ∙ one-weight, f) at F.there);
             good = fits_good (weight_is ∙ one-weight) F.fits;
             nodes_are = omega (arith, F.nodes_are);
           },
@@ -125,14 +126,14 @@ module _ (c n : ℕ) where
 
 -- What judge_all answers: nothing where no sound State stands in the bytes.
 module _ (bytes : List ℕ) (b : Bytes bytes) where
-  pub no_slots : {j : ℕ} → number bytes 0 ≡ Wrong j → loaded bytes ≡ none
+  pub no_slots : {f : Fault} → number bytes 0 ≡ Err f → loaded bytes ≡ none
   no_slots e = none_there bytes b (λ S sound there. not_wrong there.slots_there e)
 
-  module _ {c i : ℕ} (slots : number bytes 0 ≡ Read c i) where
-    pub no_nodes : {j : ℕ} → number bytes i ≡ Wrong j → loaded bytes ≡ none
+  module _ {c i : ℕ} (slots : number bytes 0 ≡ Ok (c, i)) where
+    pub no_nodes : {f : Fault} → number bytes i ≡ Err f → loaded bytes ≡ none
     no_nodes e = none_there bytes b (λ S sound there. not_wrong (rw (one_read there.slots_there slots).1 at there.count_there) e)
 
-    module _ {n at : ℕ} (count : number bytes i ≡ Read n at) where
+    module _ {n at : ℕ} (count : number bytes i ≡ Ok (n, at)) where
       -- what a sound State that stands there has
       record Has (S : State) : Type 0 where
         pub slots_are : S.slots ≡ c
@@ -154,10 +155,10 @@ module _ (bytes : List ℕ) (b : Bytes bytes) where
           let H = has S sound there in
           false≢true (sym e ∙ rw (H.slots_are, H.nodes_are) at (sound_count sound)))
 
-      pub no_top : TopSays bytes at n NotGood → loaded bytes ≡ none
+      pub no_top : TopSays bytes at n None → loaded bytes ≡ none
       no_top absent = none_there bytes b (λ S sound there. absent S.top (has S sound there).found)
 
-      pub all_found : is_count most_slots c n ≡ true → {l : ℕ} → TopSays bytes at n (Level l) → Loads bytes c n l at
+      pub all_found : is_count most_slots c n ≡ true → {l : ℕ} → TopSays bytes at n (Some l) → Loads bytes c n l at
       all_found e t = record { count_from = i; top = t.0; slots_there = slots; count_there = count; found = t.1; level_is = t.2; counts = e }
 
 pub count_few : (c n : ℕ) → is_count most_slots c n ≡ true → n ≤ most_slots

@@ -1,61 +1,39 @@
 // 02 (i), the reader of the saved form. All bytes are judged before the first word is written: "The reader's pool may hold any words."
 #![tactic(auto)]
 
-ghost use Rattle.std.specs.Prelude.{◌≡◌, eqb, length, ◌+◌, ◌-◌, ◌^◌, ◌≤◌, ◌<◌, min};
-ghost use Rattle.tree.specs.Codes.{most_slots};
+ghost use Rattle.std.specs.Prelude.{◌≡◌, length, ◌+◌, ◌-◌, ◌^◌, ◌≤◌, ◌<◌};
+ghost use Rattle.tree.specs.Codes.{most_slots, answer_of};
 ghost use Rattle.tree.specs.State.{upwards};
 ghost use Rattle.format.specs.Words.{head_of};
-ghost use Rattle.saved.specs.Loaded.{numbers_at, is_count, place_in, bad_place};
+ghost use Rattle.saved.specs.Loaded.{numbers_at, numbers_in, is_count, bad_place};
 ghost use Rattle.saved.specs.Calls.{place_word, load_call};
-ghost use Rattle.pool.specs.declared.Walk.TheVariants.{Bad};
-ghost use Rattle.load.specs.Judging.{JudgeSays, TopSays, WholeSays};
+ghost use Rattle.load.specs.Judging.{JudgeSays, TopSays, WholeSays, read_whole};
 ghost use Rattle.load.specs.Building.{Buildable, BuildSays, TopBuildable, TopBuildSays, AllBuildSays, put_up};
 
-use encoding::Number;
+use encoding::Fault;
 use format::{Header, Slot};
 use numbers::number;
-use pool::{KEY_END, ROOT_WEIGHT, Walk, join, walk_leaf};
+use pool::{KEY_END, ROOT_WEIGHT, Whole, join, walk_leaf};
 use slots::{free_slot, last_slot, length_good, put_header, put_slot};
-use tree::{Answer, MOST_SLOTS, Refusal};
+use tree::{MOST_SLOTS, Refusal};
 
 // "twice the weight, plus 1 for an inner node"
 const TWICE: u32 = 2;
 
-const LAST_WORD: u32 = 4294967295;
-
-// What is found of a tree in the bytes: what a walk over a pool's tree would find, and the place after its numbers.
-#[derive(Clone, Copy)]
-struct Judged {
-    walk: Walk,
-    next: usize,
-}
-
-fn fault() -> Judged
-    ensures { result.walk ≡ Bad }
-{
-    Judged {
-        walk: Walk::Bad,
-        next: 0,
-    }
-}
-
-// The tree whose numbers begin at place `at`, its keys from lo to below hi, at most `left` nodes deep, of at most `most` nodes. As in the audit's
-// walk a right side may have the nodes that its left side left over, and the first fault ends it: at most most + 1 calls in all.
-fn judge(bytes: &[u8], at: usize, lo: u64, hi: u64, left: u32, most: u32) -> Judged
-    ensures { JudgeSays bytes.now at lo hi left most result.next result.walk }
+// The tree whose numbers begin at place `at`, its keys from lo to below hi, at most `left` nodes deep, of at most `most` nodes: what a walk over a
+// pool's tree would find, and the place after its numbers. As in the audit's walk a right side may have the nodes that its left side left over, and
+// the first fault ends it: at most most + 1 calls in all.
+fn judge(bytes: &[u8], at: usize, lo: u64, hi: u64, left: u32, most: u32) -> Option<(Whole, usize)>
+    ensures { JudgeSays bytes.now at lo hi left most result }
 {
     if left < 1 {
-        return fault();
+        return None;
     }
     if most < 1 {
-        return fault();
+        return None;
     }
-    let Number::Read(a, i) = number(bytes, at) else {
-        return fault();
-    };
-    let Number::Read(k, j) = number(bytes, i) else {
-        return fault();
-    };
+    let (a, i) = number(bytes, at).ok()?;
+    let (k, j) = number(bytes, i).ok()?;
     if a % TWICE == 0 {
         let c = Slot {
             key: k,
@@ -63,76 +41,41 @@ fn judge(bytes: &[u8], at: usize, lo: u64, hi: u64, left: u32, most: u32) -> Jud
             right: 0,
             weight: a / TWICE,
         };
-        return Judged {
-            walk: walk_leaf(c, lo, hi, most - 1),
-            next: j,
-        };
+        let leaf = walk_leaf(c, lo, hi, most - 1)?;
+        return Some((leaf, j));
     }
     let mid = k as u64 + 1;
-    let l = judge(bytes, j, lo, mid, left - 1, most - 1);
-    let on_left = l.walk;
-    let Walk::Whole(more, al) = on_left else {
-        return fault();
-    };
-    let r = judge(bytes, l.next, mid, hi, left - 1, more);
-    let on_right = r.walk;
-    let Walk::Whole(rest, bl) = on_right else {
-        return fault();
-    };
-    Judged {
-        walk: join(a / TWICE, rest, al, bl),
-        next: r.next,
-    }
-}
-
-// Whether place `at` is the end of the bytes.
-fn ends(bytes: &[u8], at: usize) -> bool
-    ensures { result ≡ eqb at (length bytes.now) }
-{
-    if at != bytes.len() {
-        return false;
-    }
-    true
-}
-
-// What is found of the whole set: none that is good; or its L.
-#[derive(Clone, Copy)]
-enum JudgedTop {
-    NotGood,
-    Level(u32),
+    let (l, behind_left) = judge(bytes, j, lo, mid, left - 1, most - 1)?;
+    let (r, end) = judge(bytes, behind_left, mid, hi, left - 1, l.rest)?;
+    let node = join(a / TWICE, r.rest, l.sum, r.sum)?;
+    Some((node, end))
 }
 
 // The numbers from place `at` to the end, as one good tree of n nodes that hangs from an edge of weight 1; no numbers if n is 0. L is the sum
 // that judging the tree gave, less the root's weight, which counts in nothing.
 #[tactic(auto, using(crate::proofs::Wholes::top_none_past, crate::proofs::Wholes::top_none, crate::proofs::Wholes::top_cut, crate::proofs::Wholes::top_weight, crate::proofs::Wholes::top_fault, crate::proofs::Wholes::top_more, crate::proofs::Wholes::top_past, crate::proofs::Wholes::top_sum))]
-fn judge_top(bytes: &[u8], at: usize, n: u32) -> JudgedTop
+fn judge_top(bytes: &[u8], at: usize, n: u32) -> Option<u32>
     requires { n < 2 ^ 31 }
     ensures { TopSays bytes.now at n result }
 {
     if n == 0 {
-        if !ends(bytes, at) {
-            return JudgedTop::NotGood;
+        if at != bytes.len() {
+            return None;
         }
-        return JudgedTop::Level(0);
+        return Some(0);
     }
-    let Number::Read(a, _) = number(bytes, at) else {
-        return JudgedTop::NotGood;
-    };
+    let (a, _) = number(bytes, at).ok()?;
     if a / TWICE != ROOT_WEIGHT {
-        return JudgedTop::NotGood;
+        return None;
     }
-    let t = judge(bytes, at, 0, KEY_END, (n + 1) / 2, n);
-    let whole = t.walk;
-    let Walk::Whole(rest, sum) = whole else {
-        return JudgedTop::NotGood;
-    };
-    if rest != 0 {
-        return JudgedTop::NotGood;
+    let (tree, end) = judge(bytes, at, 0, KEY_END, (n + 1) / 2, n)?;
+    if tree.rest != 0 {
+        return None;
     }
-    if !ends(bytes, t.next) {
-        return JudgedTop::NotGood;
+    if end != bytes.len() {
+        return None;
     }
-    JudgedTop::Level(sum - ROOT_WEIGHT)
+    Some(tree.sum - ROOT_WEIGHT)
 }
 
 // C is from 1 to MOST_SLOTS, N at most C.
@@ -140,72 +83,68 @@ fn judge_top(bytes: &[u8], at: usize, n: u32) -> JudgedTop
 fn is_count(c: u32, n: u32) -> bool
     ensures { result ≡ is_count most_slots c n }
 {
-    if c < 1 {
-        return false;
-    }
-    if MOST_SLOTS < c {
-        return false;
-    }
-    n <= c
+    1 <= c && c <= MOST_SLOTS && n <= c
 }
 
-// What the bytes say: nothing that a writer writes; or C, N, L, and where the nodes begin.
+// What the bytes say that a writer writes: C, N, L, and where the nodes begin.
 #[derive(Clone, Copy)]
-enum Said {
-    Nothing,
-    Set(u32, u32, u32, usize),
+struct Said {
+    slots: u32,
+    nodes: u32,
+    level: u32,
+    at: usize,
 }
 
 #[tactic(auto, using(crate::proofs::Wholes::no_slots, crate::proofs::Wholes::no_nodes, crate::proofs::Wholes::no_count, crate::proofs::Wholes::no_top, crate::proofs::Wholes::all_found, crate::proofs::Wholes::count_few))]
-fn judge_all(bytes: &[u8]) -> Said
+fn judge_all(bytes: &[u8]) -> Option<Said>
     ensures { WholeSays bytes.now result }
 {
-    let Number::Read(c, i) = number(bytes, 0) else {
-        return Said::Nothing;
-    };
-    let Number::Read(n, at) = number(bytes, i) else {
-        return Said::Nothing;
-    };
-    if !is_count(c, n) {
-        return Said::Nothing;
+    let (slots, i) = number(bytes, 0).ok()?;
+    let (nodes, at) = number(bytes, i).ok()?;
+    if !is_count(slots, nodes) {
+        return None;
     }
-    let JudgedTop::Level(level) = judge_top(bytes, at, n) else {
-        return Said::Nothing;
-    };
-    Said::Set(c, n, level, at)
+    let level = judge_top(bytes, at, nodes)?;
+    Some(Said {
+        slots,
+        nodes,
+        level,
+        at,
+    })
 }
 
-// The byte at which one of the `count` numbers from place `at` on goes wrong, the first that does; the count of bytes if all read.
-#[tactic(auto, using(saved::proofs::Places::place_end, saved::proofs::Places::place_next, saved::proofs::Places::place_stop))]
-fn first_wrong(bytes: &[u8], at: usize, count: u64) -> usize
-    ensures { result ≡ place_in (length bytes.now) (numbers_at count bytes.now at) }
+// Reads `count` numbers from place `at` on, up to the first that goes wrong.
+#[tactic(auto, using(crate::proofs::Places::whole_end, crate::proofs::Places::whole_next, crate::proofs::Places::whole_stop))]
+fn read_numbers(bytes: &[u8], at: usize, count: u64) -> Result<(), Fault>
+    ensures { result ≡ read_whole (numbers_at count bytes.now at) }
 {
-    let mut left = count;
     let mut i = at;
-    while 0 < left {
-        match number(bytes, i) {
-            Number::Wrong(place) => return place,
-            Number::Read(_, next) => {
-                left -= 1;
-                i = next;
-            }
-        }
+    for _ in 0..count {
+        let (_, next) = number(bytes, i)?;
+        i = next;
     }
-    bytes.len()
+    Ok(())
+}
+
+// C, N, and two numbers for each node.
+#[tactic(auto, using(crate::proofs::Places::slots_stop, crate::proofs::Places::count_stop, crate::proofs::Places::nodes_read))]
+fn read_all(bytes: &[u8]) -> Result<(), Fault>
+    ensures { result ≡ read_whole (numbers_in bytes.now) }
+{
+    let (_, i) = number(bytes, 0)?;
+    let (n, at) = number(bytes, i)?;
+    read_numbers(bytes, at, 2 * n as u64)
 }
 
 // 02 (ii): "the place of the first bad number, and the count of saved bytes where every number reads". It is looked for in bytes that are refused,
 // and in no others.
-#[tactic(auto, using(saved::proofs::Places::slots_wrong, saved::proofs::Places::count_wrong, saved::proofs::Places::nodes_wrong))]
+#[tactic(auto, using(crate::proofs::Places::place_whole, crate::proofs::Places::place_fault))]
 fn bad_place(bytes: &[u8]) -> usize
     ensures { result ≡ bad_place bytes.now }
 {
-    match number(bytes, 0) {
-        Number::Wrong(place) => place,
-        Number::Read(_, i) => match number(bytes, i) {
-            Number::Wrong(place) => place,
-            Number::Read(n, at) => first_wrong(bytes, at, 2 * n as u64),
-        },
+    match read_all(bytes) {
+        Ok(()) => bytes.len(),
+        Err(fault) => fault.place,
     }
 }
 
@@ -214,11 +153,7 @@ fn bad_place(bytes: &[u8]) -> usize
 fn place_word(place: usize) -> u32
     ensures { result ≡ place_word place }
 {
-    if place < LAST_WORD as usize {
-        place as u32
-    } else {
-        LAST_WORD
-    }
+    u32::try_from(place).unwrap_or(u32::MAX)
 }
 
 // Where the next number and the next slot are.
@@ -228,18 +163,13 @@ struct Place {
     slot: u32,
 }
 
-// Writes the tree whose numbers begin at place `at`: "The reader numbers slots 1, 2, .. in that order". They were judged before: the
-// two returns for numbers that do not read are never taken.
+// Writes the tree whose numbers begin at place `at`: "The reader numbers slots 1, 2, .. in that order". They were judged before, so they read.
 fn build(pool: &mut [u32], bytes: &[u8], at: usize, s: u32, left: u32) -> Place
     requires { Buildable bytes.now at s left }
     ensures { BuildSays bytes.now at s pool.old pool.new result }
 {
-    let Number::Read(a, i) = number(bytes, at) else {
-        return Place { at, slot: s };
-    };
-    let Number::Read(k, j) = number(bytes, i) else {
-        return Place { at, slot: s };
-    };
+    let (a, i) = number(bytes, at).unwrap();
+    let (k, j) = number(bytes, i).unwrap();
     if a % TWICE == 0 {
         put_slot(
             pool,
@@ -294,54 +224,45 @@ fn chain_up(pool: &mut [u32], first: u32, last: u32)
     requires { last + 1 < 2 ^ 32 }
     ensures { pool.new ≡ put_up pool.old first (last + 1 - first) }
 {
-    let mut s = first;
-    while s <= last {
+    for s in first..=last {
         put_slot(pool, s, free_slot(next_free(s, last)));
-        s += 1;
     }
 }
 
-// The root's slot, 0 if there are no nodes.
-fn first_slot(n: u32) -> u32
-    ensures { result ≡ min n 1 }
+// Tree, free slots and header, with L. The root's slot is the first, or 0 if there are no nodes.
+fn build_all(pool: &mut [u32], bytes: &[u8], said: Said)
+    requires { TopBuildable bytes.now said.nodes said.at × (said.nodes ≤ said.slots) × (said.slots + 1 < 2 ^ 32) }
+    ensures { AllBuildSays bytes.now said.slots said.nodes said.level said.at pool.old pool.new }
 {
-    if n == 0 { 0 } else { 1 }
-}
-
-// Tree, free slots and header, with L.
-fn build_all(pool: &mut [u32], bytes: &[u8], c: u32, n: u32, level: u32, at: usize)
-    requires { TopBuildable bytes.now n at × (n ≤ c) × (c + 1 < 2 ^ 32) }
-    ensures { AllBuildSays bytes.now c n level at pool.old pool.new }
-{
-    build_top(pool, bytes, n, at);
-    chain_up(pool, n + 1, c);
+    build_top(pool, bytes, said.nodes, said.at);
+    chain_up(pool, said.nodes + 1, said.slots);
     put_header(
         pool,
         Header {
-            root: first_slot(n),
-            free: next_free(n, c),
-            nodes: n,
-            level,
+            root: said.nodes.min(1),
+            free: next_free(said.nodes, said.slots),
+            nodes: said.nodes,
+            level: said.level,
         },
     );
 }
 
 // "the reader [answers] 0 and N"
 #[tactic(auto, using(saved::proofs::Restarts::both, saved::proofs::Restarts::load_length, saved::proofs::Restarts::load_bad, crate::proofs::Filling::load_able, crate::proofs::Filling::load_other))]
-pub fn load(pool: &mut [u32], bytes: &[u8]) -> Answer
-    ensures answer { result ≡ (load_call pool.old bytes.now).answer }
+pub fn load(pool: &mut [u32], bytes: &[u8]) -> Result<u32, Refusal>
+    ensures answer { answer_of result ≡ (load_call pool.old bytes.now).answer }
     ensures pool { pool.new ≡ (load_call pool.old bytes.now).left }
 {
     if !length_good(pool) {
-        return Answer::Refused(Refusal::PoolLength);
+        return Err(Refusal::PoolLength);
     }
-    let Said::Set(c, n, level, at) = judge_all(bytes) else {
+    let Some(said) = judge_all(bytes) else {
         let byte = place_word(bad_place(bytes));
-        return Answer::Refused(Refusal::BadSaved(byte));
+        return Err(Refusal::BadSaved(byte));
     };
-    if c != last_slot(pool) {
-        return Answer::Refused(Refusal::NoFit);
+    if said.slots != last_slot(pool) {
+        return Err(Refusal::NoFit);
     }
-    build_all(pool, bytes, c, n, level, at);
-    Answer::Done(n)
+    build_all(pool, bytes, said);
+    Ok(said.nodes)
 }

@@ -9,9 +9,8 @@ use Prim.Native.Nat.{ℕ, zero, suc, ◌+◌, ◌≤◌, ◌<◌}
 use native.Mathlib.Decide.{dec_lt, ℕ_discrete}
 use native.Mathlib.Omega.{arith}
 use lib.ListN.{length, get_or}
-use Rattle.encoding.specs.declared.Number.{Number}
-use Rattle.encoding.specs.declared.Number.TheVariants.{Read, Wrong}
-use Rattle.encoding.specs.Numbers.{groups, number}
+use Rattle.std.specs.Prelude.{Ok, Err}
+use Rattle.encoding.specs.Numbers.{Reading, fault, groups, number}
 use Rattle.numbers.specs.Faults.{MoreFollow, BadGroups, cut_short, not_shortest, too_large, BadNumber}
 use Rattle.numbers.proofs.Took.{Took, took_end, took_large, took_padded, took_last, took_more, took_wrong, took}
 
@@ -59,7 +58,7 @@ module _ {bytes : List ℕ} where
   bad_down {i = i} h k (not_shortest (suc m) l g f e z) =
       let s : i + suc m ≡ i + 1 + m = omega arith in rw s (not_shortest m (omega arith) (omega arith) (follow_less f) (omega arith) (rw s at z))
 
-  wrong_bad : {n i j : ℕ} {first : Bool} → Took bytes n first i (Wrong j) → BadGroups bytes n (least_of first) i j
+  wrong_bad : {n i j : ℕ} {first : Bool} → Took bytes n first i (Err (fault j)) → BadGroups bytes n (least_of first) i j
   wrong_bad {i = i} {first = first} (took_large h k) =
       let s : i + 0 ≡ i = omega arith in
       let b : BadGroups bytes 0 (least_of first) i (i + 0) = too_large none_follow (omega arith) (rw s k) in
@@ -104,7 +103,7 @@ module _ {bytes : List ℕ} where
   last_good {n = zero} {i} first h k f z (too_large g e y) = let s : i + 0 ≡ i = omega arith in let w = rw s at y in omega (arith, f refl)
   last_good {n = suc n} first h k f z (too_large g e y) = omega (arith, follow_first g)
 
-  read_good : {n i j v next : ℕ} {first : Bool} → Took bytes n first i (Read v next) → BadGroups bytes n (least_of first) i j → ⊥
+  read_good : {n i j v next : ℕ} {first : Bool} → Took bytes n first i (Ok (v, next)) → BadGroups bytes n (least_of first) i j → ⊥
   read_good {first = true} (took_last h k f z) b = last_good true h k f (λ e. let y : ◌≡◌ {A = ℕ} 0 1 = cc in absurd (omega arith)) b
   read_good {first = false} (took_last h k f z) b = last_good false h k f (λ e. z) b
   read_good (took_more h k t) b = read_good t (bad_down h k b)
@@ -115,10 +114,10 @@ bad_once bytes at a b = once a b
 pub bad_near : (bytes : List ℕ) (at : ℕ) {j : ℕ} → BadNumber bytes at j → (j ≤ length bytes) × (j ≤ at + 4)
 bad_near bytes at b = near b
 
-pub number_bad : (bytes : List ℕ) (at j : ℕ) → (number bytes at ≡ Wrong j) ↔ BadNumber bytes at j
+pub number_bad : (bytes : List ℕ) (at j : ℕ) → (number bytes at ≡ Err (fault j)) ↔ BadNumber bytes at j
 unfolding number
 number_bad bytes at j = (λ e. wrong_bad (rw e at (took bytes 4 true at)), λ b. go (groups 4 true bytes at) refl b)
   where
-    go : (x : Number) → groups 4 true bytes at ≡ x → BadNumber bytes at j → groups 4 true bytes at ≡ Wrong j
-    go (Read v next) e b = absurd (read_good (rw e at (took bytes 4 true at)) b)
-    go (Wrong k) e b = e ∙ ap Wrong (once (wrong_bad (rw e at (took bytes 4 true at))) b)
+    go : (x : Reading ℕ) → groups 4 true bytes at ≡ x → BadNumber bytes at j → groups 4 true bytes at ≡ Err (fault j)
+    go (Ok (v, next)) e b = absurd (read_good (rw e at (took bytes 4 true at)) b)
+    go (Err f) e b = e ∙ ap (λ (n : ℕ). Err (fault n)) (once (wrong_bad (rw e at (took bytes 4 true at))) b)

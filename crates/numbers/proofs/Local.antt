@@ -9,9 +9,8 @@ use native.Mathlib.Numerals.{sub-one}
 use native.Mathlib.Omega.{arith}
 use lib.ListN.{length, get_or, take, length-append, get_or-append}
 use lib.Seq.{length-take-le, get_or-take, get_or_at}
-use Rattle.encoding.specs.declared.Number.{Number}
-use Rattle.encoding.specs.declared.Number.TheVariants.{Read, Wrong}
-use Rattle.encoding.specs.Numbers.{below, groups, number}
+use Rattle.std.specs.Prelude.{Ok, Err}
+use Rattle.encoding.specs.Numbers.{Reading, fault, below, groups, number}
 use Rattle.numbers.specs.Faults.{BadNumber}
 use Rattle.numbers.proofs.Groups.{large, more, padded, read_last}
 use Rattle.numbers.proofs.Faults.{bad_near, number_bad}
@@ -33,11 +32,11 @@ same_taken bytes ys m h =
     }
 
 -- the place behind the last byte that a number depends on
-abbrev pub seen : Number → ℕ
-seen (Read v next) = next
-seen (Wrong j) = j + 1
+abbrev pub seen : Reading ℕ → ℕ
+seen (Ok (v, next)) = next
+seen (Err f) = f.place + 1
 
-seen_after : {bytes : List ℕ} {n i : ℕ} {first : Bool} {x : Number} → Took bytes n first i x → i ≤ length bytes → i < seen x
+seen_after : {bytes : List ℕ} {n i : ℕ} {first : Bool} {x : Reading ℕ} → Took bytes n first i x → i ≤ length bytes → i < seen x
 seen_after (took_end h) l = omega arith
 seen_after (took_large h k) l = omega arith
 seen_after (took_padded h e) l = omega arith
@@ -46,13 +45,13 @@ seen_after (took_more h k t) l = omega (arith, seen_after t (omega arith))
 seen_after (took_wrong h k t) l = omega (arith, seen_after t (omega arith))
 
 -- one group with more to follow, and then any
-one_more : {bytes other : List ℕ} {m : ℕ} → Same bytes other m → (n : ℕ) (first : Bool) (i : ℕ) → i < m → 128 ≤ get_or bytes i 0 → (x : Number)
+one_more : {bytes other : List ℕ} {m : ℕ} → Same bytes other m → (n : ℕ) (first : Bool) (i : ℕ) → i < m → 128 ≤ get_or bytes i 0 → (x : Reading ℕ)
     → groups n false other (i + 1) ≡ x → groups (suc n) first other i ≡ below (get_or bytes i 0 - 128) x
 one_more {other = other} s n first i h k x e =
     let b = s.same i h in
     more other (suc n) first i (omega (arith, s.in_other)) (λ z. omega arith) (omega arith) ∙ rw (sub-one (suc n), b, e)
 
-took_local : {bytes other : List ℕ} {m n i : ℕ} {first : Bool} {x : Number} → Same bytes other m → Took bytes n first i x → seen x ≤ m
+took_local : {bytes other : List ℕ} {m n i : ℕ} {first : Bool} {x : Reading ℕ} → Same bytes other m → Took bytes n first i x → seen x ≤ m
     → groups n first other i ≡ x
 unfolding below
 took_local s (took_end h) l = absurd (omega (arith, s.in_bytes))
@@ -67,13 +66,13 @@ took_local {i = i} {first} s (took_wrong {n = n} h k t) l = one_more s n first i
 
 -- a last group of 1
 one_last : (bytes : List ℕ) (n : ℕ) (first : Bool) (i j : ℕ) → i ≡ j → j < length bytes → get_or bytes j 0 ≡ 1
-    → (v : ℕ) × (groups n first bytes i ≡ Read v (j + 1))
+    → (v : ℕ) × (groups n first bytes i ≡ Ok (v, j + 1))
 one_last bytes n true i j e h b = (get_or bytes j 0, rw e (read_last bytes n true j h (omega arith) (λ z. omega arith) tt))
 one_last bytes n false i j e h b = (get_or bytes j 0, rw e (read_last bytes n false j h (omega arith) (λ z. omega arith) (omega arith)))
 
 -- .. in place of the byte at which it goes wrong
-took_mended : {bytes other : List ℕ} {n i j : ℕ} {first : Bool} → Same bytes other j → Took bytes n first i (Wrong j) → i ≤ length bytes
-    → j < length other → get_or other j 0 ≡ 1 → (v : ℕ) × (groups n first other i ≡ Read v (j + 1))
+took_mended : {bytes other : List ℕ} {n i j : ℕ} {first : Bool} → Same bytes other j → Took bytes n first i (Err (fault j)) → i ≤ length bytes
+    → j < length other → get_or other j 0 ≡ 1 → (v : ℕ) × (groups n first other i ≡ Ok (v, j + 1))
 unfolding below
 took_mended {other = other} {n} {i} {j} {first} s (took_end h) l o b = one_last other n first i j (omega arith) o b
 took_mended {other = other} {n} {i} {j} {first} s (took_large h k) l o b = one_last other 0 first i j refl o b
@@ -83,27 +82,27 @@ took_mended {bytes} {i = i} {first = first} s (took_wrong {n = n} h k t) l o b =
     (get_or bytes i 0 - 128 + 128 * r.0, one_more s n first i (omega (arith, seen_after t (omega arith))) k _ r.1)
 
 -- a number of several bytes
-took_long : {bytes : List ℕ} {n i v next : ℕ} {first : Bool} → Took bytes n first i (Read v next) → 128 ≤ get_or bytes i 0 → 128 ≤ v
+took_long : {bytes : List ℕ} {n i v next : ℕ} {first : Bool} → Took bytes n first i (Ok (v, next)) → 128 ≤ get_or bytes i 0 → 128 ≤ v
 took_long (took_last h k f z) l = omega arith
 took_long (took_more h k t) l = omega (arith, took_above t)
 
-took_wrong_long : {bytes : List ℕ} {n i j : ℕ} → Took bytes (suc n) true i (Wrong j) → i < length bytes → (128 ≤ get_or bytes i 0) × (i < j)
+took_wrong_long : {bytes : List ℕ} {n i j : ℕ} → Took bytes (suc n) true i (Err (fault j)) → i < length bytes → (128 ≤ get_or bytes i 0) × (i < j)
 took_wrong_long (took_end h) l = absurd (omega arith)
 took_wrong_long (took_wrong h k t) l = (k, omega (arith, seen_after t (omega arith)))
 
 module _ (bytes : List ℕ) (at : ℕ) where
-  bad_took : {j : ℕ} → BadNumber bytes at j → Took bytes 4 true at (Wrong j)
+  bad_took : {j : ℕ} → BadNumber bytes at j → Took bytes 4 true at (Err (fault j))
   bad_took {j} b = number_took bytes at ((number_bad bytes at j).1 b)
 
-  pub number_local : {other : List ℕ} {m : ℕ} {x : Number} → Same bytes other m → number bytes at ≡ x → seen x ≤ m → number other at ≡ x
+  pub number_local : {other : List ℕ} {m : ℕ} {x : Reading ℕ} → Same bytes other m → number bytes at ≡ x → seen x ≤ m → number other at ≡ x
   unfolding number
   number_local s e l = took_local s (number_took bytes at e) l
 
-  pub number_byte : at < length bytes → get_or bytes at 0 < 128 → number bytes at ≡ Read (get_or bytes at 0) (at + 1)
+  pub number_byte : at < length bytes → get_or bytes at 0 < 128 → number bytes at ≡ Ok (get_or bytes at 0, at + 1)
   unfolding number
   number_byte h k = read_last bytes 4 true at h k (λ z. omega arith) tt
 
-  pub number_long : {v next : ℕ} → number bytes at ≡ Read v next → 128 ≤ get_or bytes at 0 → 128 ≤ v
+  pub number_long : {v next : ℕ} → number bytes at ≡ Ok (v, next) → 128 ≤ get_or bytes at 0 → 128 ≤ v
   number_long e k = took_long (number_took bytes at e) k
 
   -- Where a number goes wrong is not before it, and behind its first byte where there is one: its top bit is set then.
@@ -118,7 +117,7 @@ module _ (bytes : List ℕ) (at : ℕ) where
   bad_stays {other} {j} s b = (number_bad other at j).0 (number_local s ((number_bad bytes at j).1 b) (omega arith))
 
   pub bad_mended : {j : ℕ} → BadNumber bytes at j → at ≤ length bytes → (ys : List ℕ)
-      → (v : ℕ) × (number (take j bytes ++ (1 ∷ ys)) at ≡ Read v (j + 1))
+      → (v : ℕ) × (number (take j bytes ++ (1 ∷ ys)) at ≡ Ok (v, j + 1))
   unfolding number
   bad_mended {j} b h ys =
       let l = (bad_near bytes at b).0 in let t = length-take-le j bytes l in let size = length-append (take j bytes) (1 ∷ ys) in

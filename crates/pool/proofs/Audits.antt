@@ -9,7 +9,7 @@ use Prim.Native.Nat.{ℕ, ◌-◌, ◌≤◌, ◌<◌}
 use native.Mathlib.Omega.{arith}
 use Rattle.tree.proofs.Tests.{same_or_not, either_way}
 use Rattle.tree.specs.State.{Top, empty, full, nodes, level_top, GoodTop}
-use Rattle.format.specs.declared.Audited.TheVariants.{Broken, Passed}
+use Rattle.format.specs.declared.Unsound.TheVariants.{Broken}
 use Rattle.format.specs.Words.{header_of, slots_in, length_good, root_of}
 use Rattle.format.specs.Shows.{HoldsTop}
 use Rattle.format.specs.Audit.{rules_hold, audited}
@@ -18,8 +18,8 @@ use Rattle.format.proofs.Shown.{good_length}
 use Rattle.format.proofs.Cover.{LocalFacts, local_facts, facts_shows, facts_sound, sound_local}
 use Rattle.format.proofs.Rules.{rules_show}
 use Rattle.format.proofs.AuditCases.{Words32, audited_length, audited_broken, audited_passed}
-use Rattle.pool.specs.declared.Walk.{Walk}
-use Rattle.pool.specs.declared.Walk.TheVariants.{Bad, Whole}
+use Rattle.std.specs.Prelude.{Ok, Err, Option, Some, None}
+use Rattle.pool.specs.declared.Whole.{Whole}
 use Rattle.pool.specs.Standing.{allowance}
 use Rattle.pool.specs.Visits.{chain_tour, top_tour, counted, walks_tour, audit_tour}
 use Rattle.pool.proofs.Tours.{audit_length, audit_nodes, audit_walks, walks_chain, walks_tree, counted_other, counted_level, counted_all}
@@ -32,10 +32,10 @@ abbrev NotShown : List ℕ → Type 0
 NotShown p = (t : Top) (fs : List ℕ) → LocalFacts (header_of p) p t fs → ⊥
 
 module _ (p : List ℕ) where
-  shown_broken : length_good p ≡ true → Words32 p → NotShown p → audited p ≡ Broken
+  shown_broken : length_good p ≡ true → Words32 p → NotShown p → audited p ≡ Err Broken
   shown_broken h words none = go (rules_hold p) refl
     where
-      go : (b : Bool) → rules_hold p ≡ b → audited p ≡ Broken
+      go : (b : Bool) → rules_hold p ≡ b → audited p ≡ Err Broken
       go true e = let g = rules_show (header_of p) p h e words in absurd (none _ _ (sound_local g.0 g.1))
       go false e = audited_broken p h e
 
@@ -59,7 +59,7 @@ module _ (p : List ℕ) where
   one_top (full t) empty root left f g = absurd (omega (arith, g, f.at, (holds_root f.holds).from_one))
   one_top (full t) (full u) root left f g = ap full (holds_one f.holds g.holds (f.at ∙ sym g.at)).1
 
-  not_top : TopSays p (header_of p).root (allowance p) (header_of p).nodes Bad → NotShown p
+  not_top : TopSays p (header_of p).root (allowance p) (header_of p).nodes None → NotShown p
   not_top says t fs f = says t (fine_top t f) (omega (arith, f.nodes_is))
 
   -- what the walk found is what the local facts ask of the tree
@@ -68,17 +68,17 @@ module _ (p : List ℕ) where
   top_facts empty root left f = (f, tt, tt)
   top_facts (full t) root left f = (sym f.at, f.holds, record { ordered = f.ordered; chromatic = f.chromatic; low = omega (arith, f.low) })
 
-  module _ {rest l : ℕ} (W : TopSays p (header_of p).root (allowance p) (header_of p).nodes (Whole rest l)) where
-    not_count : rest ≢ 0 → NotShown p
-    not_count h t fs f = h (omega (arith, W.nodes_are, ap nodes (one_top W.top t _ _ W.fine (fine_top t f)), f.nodes_is))
+  module _ {f : Whole} (W : TopSays p (header_of p).root (allowance p) (header_of p).nodes (Some f)) where
+    not_count : f.rest ≢ 0 → NotShown p
+    not_count h t fs x = h (omega (arith, W.nodes_are, ap nodes (one_top W.top t _ _ W.fine (fine_top t x)), x.nodes_is))
 
-    not_level : l ≢ (header_of p).level → NotShown p
-    not_level h t fs f = h (W.level_is ∙ (ap level_top (one_top W.top t _ _ W.fine (fine_top t f)) ∙ sym f.level_is))
+    not_level : f.sum ≢ (header_of p).level → NotShown p
+    not_level h t fs x = h (W.level_is ∙ (ap level_top (one_top W.top t _ _ W.fine (fine_top t x)) ∙ sym x.level_is))
 
     -- No fault.
     found_all : length_good p ≡ true → (header_of p).nodes ≤ slots_in p
-        → ChainSays p (header_of p).free (slots_in p - (header_of p).nodes) true → rest ≡ 0 → l ≡ (header_of p).level
-        → Passed (header_of p) ≡ audited p
+        → ChainSays p (header_of p).free (slots_in p - (header_of p).nodes) true → f.rest ≡ 0 → f.sum ≡ (header_of p).level
+        → Ok (header_of p) ≡ audited p
     found_all length_good_holds few chain count level =
         let T = top_facts W.top _ _ W.fine in
         let facts : LocalFacts (header_of p) p W.top chain.slots =
@@ -87,14 +87,14 @@ module _ (p : List ℕ) where
 
   -- The walks, where length and header are good; then the whole audit.
   module _ (words : Words32 p) (good : length_good p ≡ true) (few : (header_of p).nodes ≤ slots_in p) where
-    tree_tour_lem : ChainSays p (header_of p).free (slots_in p - (header_of p).nodes) true → (r : Walk)
+    tree_tour_lem : ChainSays p (header_of p).free (slots_in p - (header_of p).nodes) true → (r : Option Whole)
         → TopSays p (header_of p).root (allowance p) (header_of p).nodes r → counted (header_of p) r ≡ audited p
-    tree_tour_lem chain Bad says = sym (shown_broken good words (not_top says))
-    tree_tour_lem chain (Whole rest l) W = same_or_not rest 0
-        (λ e. same_or_not l (header_of p).level
-        (λ f. rw (counted_all (header_of p) rest l refl e f) (found_all W good few chain e f))
-        (λ h. rw (counted_level (header_of p) rest l h) (sym (shown_broken good words (not_level W h)))))
-        (λ h. rw (counted_other (header_of p) rest l h) (sym (shown_broken good words (not_count W h))))
+    tree_tour_lem chain None says = sym (shown_broken good words (not_top says))
+    tree_tour_lem chain (Some t) W = same_or_not t.rest 0
+        (λ e. same_or_not t.sum (header_of p).level
+        (λ f. rw (counted_all (header_of p) t refl e f) (found_all W good few chain e f))
+        (λ h. rw (counted_level (header_of p) t h) (sym (shown_broken good words (not_level W h)))))
+        (λ h. rw (counted_other (header_of p) t h) (sym (shown_broken good words (not_count W h))))
 
     walks_tour_lem : (b : Bool) → (chain_tour (slots_in p - (header_of p).nodes) p (header_of p).free).answer ≡ b
         → ChainSays p (header_of p).free (slots_in p - (header_of p).nodes) b → (walks_tour (header_of p) p).answer ≡ audited p

@@ -12,14 +12,14 @@ use borrow.Author.Tests.{eq-eqb, ne_eqb, le-leb, lt-leb, eqb-true, leb-true, ltb
 use Rattle.tree.specs.State.{key_end}
 use Rattle.format.specs.declared.Header.{Header}
 use Rattle.format.specs.declared.Slot.{Slot}
-use Rattle.format.specs.declared.Audited.TheVariants.{Length, Broken, Passed}
+use Rattle.format.specs.declared.Unsound.TheVariants.{Length, Broken}
 use Rattle.format.specs.Words.{header_of, slot_at, slots_in, length_good, free_weight}
 use Rattle.format.specs.Audit.{is_slot, free_words}
-use Rattle.pool.specs.declared.Walk.{Walk}
-use Rattle.pool.specs.declared.Walk.TheVariants.{Bad, Whole}
+use Rattle.std.specs.Prelude.{Ok, Err, Option, Some, None}
+use Rattle.pool.specs.declared.Whole.{Whole}
 use Rattle.format.proofs.Slots.{slot_eq}
 use Rattle.pool.specs.Walks.{most_sum, FreeSays}
-use Rattle.pool.specs.Visits.{Tour, tour, leaf_test, leaf_walk, join_test, join_walk, inner_tour, tree_tour, off_root, top_tour, chain_tour, counted, walks_tour, audit_tour}
+use Rattle.pool.specs.Visits.{Tour, tour, whole, leaf_test, leaf_walk, join_test, join_walk, inner_tour, tree_tour, off_root, top_tour, chain_tour, counted, walks_tour, audit_tour}
 use Rattle.pool.specs.Standing.{allowance}
 
 -- What the tests of a leaf and of a node's two sides ask.
@@ -49,15 +49,15 @@ module _ (c : Slot) (lo hi rest : ℕ) where
   pub leaf_test_lem : LeafFine c lo hi → leaf_test c lo hi ≡ true
   leaf_test_lem f = rw (eq-eqb _ 0 f.bare, le-leb 1 _ f.not_red, le-leb _ most_sum f.low, le-leb lo _ f.from, le-leb _ hi f.below)
 
-  pub leaf_good : LeafFine c lo hi → leaf_walk c lo hi rest ≡ Whole rest c.weight
+  pub leaf_good : LeafFine c lo hi → leaf_walk c lo hi rest ≡ Some (whole rest c.weight)
   unfolding leaf_walk
   leaf_good f = rw (leaf_test_lem f, leaf_walk)
 
-  pub leaf_bad : (LeafFine c lo hi → ⊥) → leaf_walk c lo hi rest ≡ Bad
+  pub leaf_bad : (LeafFine c lo hi → ⊥) → leaf_walk c lo hi rest ≡ None
   unfolding leaf_walk
   leaf_bad faulty = go (leaf_test c lo hi) refl
     where
-      go : (b : Bool) → leaf_test c lo hi ≡ b → leaf_walk c lo hi rest ≡ Bad
+      go : (b : Bool) → leaf_test c lo hi ≡ b → leaf_walk c lo hi rest ≡ None
       go true e = absurd (faulty (leaf_facts e))
       go false e = rw (e, leaf_walk)
 
@@ -68,45 +68,45 @@ module _ (w rest al bl : ℕ) where
   pub join_test_lem : JoinFine w al bl → join_test w al bl ≡ true
   join_test_lem f = rw (eq-eqb al bl f.same_sum, le-leb (w + al) most_sum f.low)
 
-  pub join_good : JoinFine w al bl → join_walk w rest al bl ≡ Whole rest (w + al)
+  pub join_good : JoinFine w al bl → join_walk w rest al bl ≡ Some (whole rest (w + al))
   unfolding join_walk
   join_good f = rw (join_test_lem f, join_walk)
 
-  pub join_bad : (JoinFine w al bl → ⊥) → join_walk w rest al bl ≡ Bad
+  pub join_bad : (JoinFine w al bl → ⊥) → join_walk w rest al bl ≡ None
   unfolding join_walk
   join_bad faulty = go (join_test w al bl) refl
     where
-      go : (b : Bool) → join_test w al bl ≡ b → join_walk w rest al bl ≡ Bad
+      go : (b : Bool) → join_test w al bl ≡ b → join_walk w rest al bl ≡ None
       go true e = absurd (faulty (join_facts e))
       go false e = rw (e, join_walk)
 
 -- An inner node, by what its two sides answer.
-module _ (w : ℕ) (a : Tour Walk) (f : ℕ → Tour Walk) where
-  pub inner_left : a.answer ≡ Bad → (inner_tour w a f).answer ≡ Bad
+module _ (w : ℕ) (a : Tour (Option Whole)) (f : ℕ → Tour (Option Whole)) where
+  pub inner_left : a.answer ≡ None → (inner_tour w a f).answer ≡ None
   unfolding inner_tour
   inner_left e = rw (e, inner_tour)
 
-  module _ {more al : ℕ} (e : a.answer ≡ Whole more al) where
-    pub inner_right : (f more).answer ≡ Bad → (inner_tour w a f).answer ≡ Bad
+  module _ {l : Whole} (e : a.answer ≡ Some l) where
+    pub inner_right : (f l.rest).answer ≡ None → (inner_tour w a f).answer ≡ None
     unfolding inner_tour
     inner_right g = rw (e, g, inner_tour)
 
-    pub inner_both : {rest bl : ℕ} → (f more).answer ≡ Whole rest bl → (inner_tour w a f).answer ≡ join_walk w rest al bl
+    pub inner_both : {r : Whole} → (f l.rest).answer ≡ Some r → (inner_tour w a f).answer ≡ join_walk w r.rest l.sum r.sum
     unfolding inner_tour
     inner_both g = rw (e, g, inner_tour)
 
 -- A slot of the tree.
-pub tour_deep : (left : ℕ) (p : List ℕ) (s lo hi most : ℕ) → left < 1 → tree_tour left p s lo hi most ≡ tour Bad 1
+pub tour_deep : (left : ℕ) (p : List ℕ) (s lo hi most : ℕ) → left < 1 → tree_tour left p s lo hi most ≡ tour None 1
 unfolding tree_tour
 tour_deep left p s lo hi most h = let e : left ≡ 0 = omega arith in rw e
 
-pub tour_many : (left : ℕ) (p : List ℕ) (s lo hi most : ℕ) → most < 1 → tree_tour left p s lo hi most ≡ tour Bad 1
+pub tour_many : (left : ℕ) (p : List ℕ) (s lo hi most : ℕ) → most < 1 → tree_tour left p s lo hi most ≡ tour None 1
 unfolding tree_tour
 tour_many zero p s lo hi most h = refl
 tour_many (suc left) p s lo hi zero h = refl
 tour_many (suc left) p s lo hi (suc most) h = absurd (omega arith)
 
-pub tour_outside : (left : ℕ) (p : List ℕ) (s lo hi most : ℕ) → is_slot p s ≡ false → tree_tour left p s lo hi most ≡ tour Bad 1
+pub tour_outside : (left : ℕ) (p : List ℕ) (s lo hi most : ℕ) → is_slot p s ≡ false → tree_tour left p s lo hi most ≡ tour None 1
 unfolding tree_tour
 tour_outside zero p s lo hi most e = refl
 tour_outside (suc left) p s lo hi zero e = refl
@@ -130,11 +130,11 @@ tour_inner (suc left) p s lo hi (suc most) d m e z = rw (e, ne_eqb _ _ z, tree_t
 
 -- The root.
 module _ (p : List ℕ) (root left most : ℕ) where
-  pub top_none : root ≡ 0 → top_tour p root left most ≡ tour (Whole most 0) 0
+  pub top_none : root ≡ 0 → top_tour p root left most ≡ tour (Some (whole most 0)) 0
   unfolding top_tour
   top_none e = rw (eq-eqb root 0 e, top_tour)
 
-  pub top_weight : root ≢ 0 → (slot_at p root).weight ≢ 1 → top_tour p root left most ≡ tour Bad 0
+  pub top_weight : root ≢ 0 → (slot_at p root).weight ≢ 1 → top_tour p root left most ≡ tour None 0
   unfolding top_tour
   top_weight h z = rw (ne_eqb root 0 h, ne_eqb _ 1 z, top_tour)
 
@@ -190,12 +190,12 @@ turn_next (suc n) p s h e f = rw (e, f, chain_tour, sub-one (suc n))
 
 -- The audit.
 module _ (p : List ℕ) where
-  pub audit_length : length_good p ≡ false → audit_tour p ≡ tour Length 0
+  pub audit_length : length_good p ≡ false → audit_tour p ≡ tour (Err Length) 0
   unfolding audit_tour
   audit_length e = rw (e, audit_tour)
 
   module _ (good : length_good p ≡ true) where
-    pub audit_nodes : slots_in p < (header_of p).nodes → audit_tour p ≡ tour Broken 0
+    pub audit_nodes : slots_in p < (header_of p).nodes → audit_tour p ≡ tour (Err Broken) 0
     unfolding audit_tour
     audit_nodes h = rw (good, lt-leb _ (slots_in p) h, audit_tour)
 
@@ -204,7 +204,7 @@ module _ (p : List ℕ) where
     audit_walks few = rw (good, le-leb _ (slots_in p) few, audit_tour)
 
 module _ (h : Header) (p : List ℕ) where
-  pub walks_chain : (chain_tour (slots_in p - h.nodes) p h.free).answer ≡ false → (walks_tour h p).answer ≡ Broken
+  pub walks_chain : (chain_tour (slots_in p - h.nodes) p h.free).answer ≡ false → (walks_tour h p).answer ≡ Err Broken
   unfolding walks_tour
   walks_chain e = rw (e, walks_tour)
 
@@ -214,12 +214,12 @@ module _ (h : Header) (p : List ℕ) where
   walks_tree e = rw (e, walks_tour)
 
 -- N against what is left over, and the header's L against the tree's.
-module _ (h : Header) (rest l : ℕ) where
-  pub counted_other : rest ≢ 0 → counted h (Whole rest l) ≡ Broken
-  counted_other z = rw (ne_eqb rest 0 z, counted)
+module _ (h : Header) (t : Whole) where
+  pub counted_other : t.rest ≢ 0 → counted h (Some t) ≡ Err Broken
+  counted_other z = rw (ne_eqb t.rest 0 z, counted)
 
-  pub counted_level : l ≢ h.level → counted h (Whole rest l) ≡ Broken
-  counted_level z = rw (ne_eqb l h.level z, and-false (eqb rest 0), counted)
+  pub counted_level : t.sum ≢ h.level → counted h (Some t) ≡ Err Broken
+  counted_level z = rw (ne_eqb t.sum h.level z, and-false (eqb t.rest 0), counted)
 
-  pub counted_all : {k : Header} → k ≡ h → rest ≡ 0 → l ≡ h.level → counted h (Whole rest l) ≡ Passed k
-  counted_all read e f = rw (eq-eqb rest 0 e, eq-eqb l h.level f, counted, read)
+  pub counted_all : {k : Header} → k ≡ h → t.rest ≡ 0 → t.sum ≡ h.level → counted h (Some t) ≡ Ok k
+  counted_all read e f = rw (eq-eqb t.rest 0 e, eq-eqb t.sum h.level f, counted, read)

@@ -13,22 +13,22 @@ use Rattle.tree.specs.State.{key_end}
 use Rattle.tree.proofs.Tests.{same_or_not, either_way}
 use Rattle.format.specs.declared.Header.{Header}
 use Rattle.format.specs.declared.Slot.{Slot}
-use Rattle.format.specs.declared.Audited.{Audited}
-use Rattle.format.specs.declared.Audited.TheVariants.{Length, Broken, Passed}
+use Rattle.format.specs.declared.Unsound.{Unsound}
+use Rattle.format.specs.declared.Unsound.TheVariants.{Length, Broken}
 use Rattle.format.specs.Words.{header_of, slot_at, slots_in, length_good}
 use Rattle.format.specs.Audit.{is_slot, free_words, audited}
 use Rattle.format.proofs.AuditCases.{Words32}
-use Rattle.pool.specs.declared.Walk.{Walk}
-use Rattle.pool.specs.declared.Walk.TheVariants.{Bad, Whole}
+use Rattle.std.specs.Prelude.{Result, Ok, Err, Option, Some, None}
+use Rattle.pool.specs.declared.Whole.{Whole}
 use Rattle.pool.specs.Standing.{allowance}
 use Rattle.pool.specs.Visits.{Tour, leaf_test, leaf_walk, join_test, join_walk, inner_tour, tree_tour, off_root, top_tour, chain_tour, counted, walks_tour, audit_tour, audit_visits}
 use Rattle.pool.proofs.Tours.{top_none, top_weight, top_tree, audit_length, audit_nodes, audit_walks, counted_other, counted_level, counted_all}
 use Rattle.pool.proofs.Audits.{audit_tour_lem}
 
 -- What v visits have found, of `most` allowed, at a slot of weight w.
-abbrev Spent : ℕ → ℕ → ℕ → Walk → Type 0
-Spent w most v Bad = v ≤ most + 1
-Spent w most v (Whole rest l) = (v + rest ≡ most) × (w ≤ l)
+abbrev Spent : ℕ → ℕ → ℕ → Option Whole → Type 0
+Spent w most v None = v ≤ most + 1
+Spent w most v (Some f) = (v + f.rest ≡ most) × (w ≤ f.sum)
 
 leaf_spent : (c : Slot) (lo hi most : ℕ) → Spent c.weight (suc most) 1 (leaf_walk c lo hi most)
 unfolding leaf_walk
@@ -46,7 +46,7 @@ join_spent w rest al bl most v h = go (join_test w al bl) refl
     go true e = rw (e, join_walk) (omega arith)
     go false e = rw (e, join_walk) (omega arith)
 
-inner_spent : (w x y most : ℕ) (a : Tour Walk) (f : ℕ → Tour Walk) → Spent x most a.visits a.answer
+inner_spent : (w x y most : ℕ) (a : Tour (Option Whole)) (f : ℕ → Tour (Option Whole)) → Spent x most a.visits a.answer
     → ((more : ℕ) → Spent y more (f more).visits (f more).answer)
     → Spent w (suc most) (inner_tour w a f).visits (inner_tour w a f).answer
 unfolding inner_tour
@@ -55,13 +55,14 @@ inner_spent w x y most a f h k = go a.answer refl h
     Goal : Type 0
     Goal = Spent w (suc most) (inner_tour w a f).visits (inner_tour w a f).answer
 
-    both : (more al : ℕ) (r : Walk) → a.answer ≡ Whole more al → a.visits + more ≡ most → (f more).answer ≡ r → Spent y more (f more).visits r → Goal
-    both more al Bad e s g z = rw (e, g, inner_tour) (omega arith)
-    both more al (Whole rest bl) e s g z = rw (e, g, inner_tour) (join_spent w rest al bl (suc most) (1 + a.visits + (f more).visits) (omega arith))
+    both : (l : Whole) (r : Option Whole) → a.answer ≡ Some l → a.visits + l.rest ≡ most → (f l.rest).answer ≡ r
+        → Spent y l.rest (f l.rest).visits r → Goal
+    both l None e s g z = rw (e, g, inner_tour) (omega arith)
+    both l (Some r) e s g z = rw (e, g, inner_tour) (join_spent w r.rest l.sum r.sum (suc most) (1 + a.visits + (f l.rest).visits) (omega arith))
 
-    go : (r : Walk) → a.answer ≡ r → Spent x most a.visits r → Goal
-    go Bad e s = rw (e, inner_tour) (omega arith)
-    go (Whole more al) e s = both more al (f more).answer e s.0 refl (k more)
+    go : (r : Option Whole) → a.answer ≡ r → Spent x most a.visits r → Goal
+    go None e s = rw (e, inner_tour) (omega arith)
+    go (Some l) e s = both l (f l.rest).answer e s.0 refl (k l.rest)
 
 tree_spent : (left : ℕ) (p : List ℕ) (s lo hi most : ℕ) → let t = tree_tour left p s lo hi most in Spent (slot_at p s).weight most t.visits t.answer
 unfolding tree_tour
@@ -86,27 +87,27 @@ tree_spent (suc left) p s lo hi (suc most) =
 
 -- The tree.
 module _ (left : ℕ) (p : List ℕ) (s lo hi most : ℕ) where
-  found_spent : {rest l : ℕ} → (tree_tour left p s lo hi most).answer ≡ Whole rest l
-      → Spent (slot_at p s).weight most (tree_tour left p s lo hi most).visits (Whole rest l)
+  found_spent : {f : Whole} → (tree_tour left p s lo hi most).answer ≡ Some f
+      → Spent (slot_at p s).weight most (tree_tour left p s lo hi most).visits (Some f)
   found_spent e = rw e at (tree_spent left p s lo hi most)
 
-  pub tree_exact : {rest l : ℕ} → (tree_tour left p s lo hi most).answer ≡ Whole rest l → (tree_tour left p s lo hi most).visits + rest ≡ most
+  pub tree_exact : {f : Whole} → (tree_tour left p s lo hi most).answer ≡ Some f → (tree_tour left p s lo hi most).visits + f.rest ≡ most
   tree_exact e = (found_spent e).0
 
-  pub sum_from_weight : {rest l : ℕ} → (tree_tour left p s lo hi most).answer ≡ Whole rest l → (slot_at p s).weight ≤ l
+  pub sum_from_weight : {f : Whole} → (tree_tour left p s lo hi most).answer ≡ Some f → (slot_at p s).weight ≤ f.sum
   sum_from_weight e = (found_spent e).1
 
-spent_most : (w most v : ℕ) (r : Walk) → Spent w most v r → v ≤ most + 1
-spent_most w most v Bad h = h
-spent_most w most v (Whole rest l) h = omega (arith, h.0)
+spent_most : (w most v : ℕ) (r : Option Whole) → Spent w most v r → v ≤ most + 1
+spent_most w most v None h = h
+spent_most w most v (Some f) h = omega (arith, h.0)
 
 pub tree_visits : (left : ℕ) (p : List ℕ) (s lo hi most : ℕ) → (tree_tour left p s lo hi most).visits ≤ most + 1
 tree_visits left p s lo hi most = spent_most _ _ _ (tree_tour left p s lo hi most).answer (tree_spent left p s lo hi most)
 
 -- The whole tree.
-off_root_lem : (w most v : ℕ) (r : Walk) → Spent w most v r → Spent 0 most v (off_root r)
-off_root_lem w most v Bad h = h
-off_root_lem w most v (Whole rest l) h = (h.0, omega arith)
+off_root_lem : (w most v : ℕ) (r : Option Whole) → Spent w most v r → Spent 0 most v (off_root r)
+off_root_lem w most v None h = h
+off_root_lem w most v (Some f) h = (h.0, omega arith)
 
 top_spent : (p : List ℕ) (root left most : ℕ) → let t = top_tour p root left most in Spent 0 most t.visits t.answer
 top_spent p root left most = same_or_not root 0
@@ -149,19 +150,19 @@ pub chain_exact : (n : ℕ) (p : List ℕ) (s : ℕ) → (chain_tour n p s).answ
 chain_exact n p s e = rw e at (chain_turned n p s)
 
 -- The audit: v visits of a pool of c slots.
-abbrev Visited : ℕ → ℕ → Audited → Type 0
-Visited c v Length = v ≡ 0
-Visited c v Broken = v ≤ c + 1
-Visited c v (Passed h) = v ≡ c
+abbrev Visited : ℕ → ℕ → Result Header Unsound → Type 0
+Visited c v (Err Length) = v ≡ 0
+Visited c v (Err Broken) = v ≤ c + 1
+Visited c v (Ok h) = v ≡ c
 
 -- The chain has the slots that are not N's, and the tree has N.
-counted_visits : (h : Header) (c v w : ℕ) → h.nodes ≤ c → w ≡ c - h.nodes → (r : Walk) → Spent 0 h.nodes v r → Visited c (w + v) (counted h r)
-counted_visits h c v w few e Bad s = omega arith
-counted_visits h c v w few e (Whole rest l) s = same_or_not rest 0
-    (λ z. same_or_not l h.level
-    (λ y. rw (counted_all h rest l refl z y) (omega (arith, s.0)))
-    (λ n. rw (counted_level h rest l n) (omega (arith, s.0))))
-    (λ n. rw (counted_other h rest l n) (omega (arith, s.0)))
+counted_visits : (h : Header) (c v w : ℕ) → h.nodes ≤ c → w ≡ c - h.nodes → (r : Option Whole) → Spent 0 h.nodes v r → Visited c (w + v) (counted h r)
+counted_visits h c v w few e None s = omega arith
+counted_visits h c v w few e (Some t) s = same_or_not t.rest 0
+    (λ z. same_or_not t.sum h.level
+    (λ y. rw (counted_all h t refl z y) (omega (arith, s.0)))
+    (λ n. rw (counted_level h t n) (omega (arith, s.0))))
+    (λ n. rw (counted_other h t n) (omega (arith, s.0)))
 
 walks_visits : (h : Header) (p : List ℕ) → h.nodes ≤ slots_in p → let t = walks_tour h p in Visited (slots_in p) t.visits t.answer
 unfolding walks_tour
@@ -170,7 +171,7 @@ walks_visits h p few = go chain.answer refl (chain_turned (slots_in p - h.nodes)
     chain : Tour Bool
     chain = chain_tour (slots_in p - h.nodes) p h.free
 
-    tree : Tour Walk
+    tree : Tour (Option Whole)
     tree = top_tour p h.root (allowance p) h.nodes
 
     go : (b : Bool) → chain.answer ≡ b → Turned (slots_in p - h.nodes) chain.visits b
@@ -188,10 +189,10 @@ module _ (p : List ℕ) where
           (λ few. rw (audit_walks p e few, audit_visits) (walks_visits (header_of p) p few))
           (λ many. rw (audit_nodes p e many, audit_visits) (omega arith))
 
-  audits_most : (c v : ℕ) (r : Audited) → Visited c v r → v ≤ c + 1
-  audits_most c v Length h = omega arith
-  audits_most c v Broken h = h
-  audits_most c v (Passed k) h = omega arith
+  audits_most : (c v : ℕ) (r : Result Header Unsound) → Visited c v r → v ≤ c + 1
+  audits_most c v (Err Length) h = omega arith
+  audits_most c v (Err Broken) h = h
+  audits_most c v (Ok k) h = omega arith
 
   -- On any words at most C + 1 visits.
   pub audit_visits_lem : audit_visits p ≤ slots_in p + 1
@@ -202,7 +203,7 @@ module _ (p : List ℕ) where
   length_visits e = rw (audit_length p e, audit_visits)
 
   -- C where the pool passes: each slot once.
-  pub passed_visits : Words32 p → {h : Header} → audited p ≡ Passed h → audit_visits p ≡ slots_in p
+  pub passed_visits : Words32 p → {h : Header} → audited p ≡ Ok h → audit_visits p ≡ slots_in p
   passed_visits words e = rw (audit_tour_lem p words ∙ e) at tour_visits
 
 -- C = 1, and a root that is its own child: C + 1 visits are made.

@@ -2,18 +2,18 @@
 #![tactic(auto)]
 
 ghost use Rattle.std.specs.Prelude.{◌≡◌};
-ghost use Rattle.format.specs.Audit.{audited, audit_code};
+ghost use Rattle.format.specs.Audit.{audited, audited_code, audit_code};
 ghost use Rattle.pool.specs.Results.{prepare_code, prepared_words};
 ghost use Rattle.pool.specs.Standing.{allowance};
 ghost use Rattle.pool.specs.Walks.{FreeSays};
-ghost use Rattle.pool.specs.Visits.{leaf_walk, join_walk, tree_tour, top_tour, chain_tour};
+ghost use Rattle.pool.specs.Visits.{leaf_walk, join_walk, tree_tour, top_tour, chain_tour, audit_tour};
 
-use format::{Audited, Header, Slot};
+use format::{Header, Slot, Unsound};
 use slots::{
-    FREE_WEIGHT, free_slot, get_header, get_slot, is_slot, last_slot, length_good, put_header,
-    put_slot, slots_in,
+    free_slot, get_header, get_slot, is_slot, last_slot, length_good, put_header, put_slot,
+    slots_in,
 };
-use tree::{Answer, MOST_LEVEL, Refusal};
+use tree::MOST_LEVEL;
 
 // 01: "The root's is 1 and counts in nothing."
 pub const ROOT_WEIGHT: u32 = 1;
@@ -22,12 +22,12 @@ pub const KEY_END: u64 = 4294967296;
 
 // 01: "Prepare makes a pool empty: header 0, 1, 0, 0, all slots free, chained 1, 2, .. C."
 #[tactic(auto, using(format::proofs::Shown::good_length, crate::proofs::Prepares::chaining_first, crate::proofs::Prepares::chaining_more, crate::proofs::Prepares::prepare_refused, crate::proofs::Prepares::prepare_done))]
-pub fn prepare(pool: &mut [u32]) -> u32
-    ensures code { result ≡ prepare_code pool.old }
+pub fn prepare(pool: &mut [u32]) -> Result<(), Unsound>
+    ensures code { audited_code result ≡ prepare_code pool.old }
     ensures pool { pool.new ≡ prepared_words pool.old }
 {
     if !length_good(pool) {
-        return Refusal::POOL_LENGTH;
+        return Err(Unsound::Length);
     }
     let last = slots_in(pool) as u32;
     put_header(
@@ -39,13 +39,11 @@ pub fn prepare(pool: &mut [u32]) -> u32
             level: 0,
         },
     );
-    let mut s = 1;
-    while s < last {
+    for s in 1..last {
         put_slot(pool, s, free_slot(s + 1));
-        s += 1;
     }
     put_slot(pool, last, free_slot(0));
-    Answer::DONE
+    Ok(())
 }
 
 // How deep a walk down a tree may go: (C + 1) / 2, since a tree of n nodes is at most (n + 1) / 2 nodes deep.
@@ -55,12 +53,12 @@ pub fn allowance(pool: &[u32]) -> u32
     (last_slot(pool) + 1) / 2
 }
 
-// What a walk over a tree finds: a fault; or how many of the nodes that it may have are left over, and what the weights from the edge
-// above it down to each leaf add up to.
+// What a walk over a tree finds where there is no fault: how many of the nodes that it may have are left over, and what the weights from
+// the edge above it down to each leaf add up to.
 #[derive(Clone, Copy)]
-pub enum Walk {
-    Bad,
-    Whole(u32, u32),
+pub struct Whole {
+    pub rest: u32,
+    pub sum: u32,
 }
 
 // The largest such sum: L, and the weight of the root, which counts in nothing and is taken off at the end.
@@ -68,105 +66,73 @@ const MOST_SUM: u32 = MOST_LEVEL + ROOT_WEIGHT;
 
 // A slot whose left is 0, as a leaf with its key from lo to below hi. This and `join` are the rules of a tree's leaves and nodes, for the
 // audit's walk and for the reader of the saved form.
-#[tactic(auto, using(crate::proofs::Tours::leaf_good, crate::proofs::Tours::leaf_bad))]
-pub fn walk_leaf(c: Slot, lo: u64, hi: u64, rest: u32) -> Walk
+#[tactic(auto, unfolding(crate::specs::Visits::leaf_walk))]
+pub fn walk_leaf(c: Slot, lo: u64, hi: u64, rest: u32) -> Option<Whole>
     ensures { result ≡ leaf_walk c lo hi rest }
 {
-    if c.right != 0 {
-        return Walk::Bad;
+    if c.right != 0 || !(1..=MOST_SUM).contains(&c.weight) || !(lo..hi).contains(&(c.key as u64)) {
+        return None;
     }
-    if c.weight < 1 {
-        return Walk::Bad;
-    }
-    if MOST_SUM < c.weight {
-        return Walk::Bad;
-    }
-    if (c.key as u64) < lo {
-        return Walk::Bad;
-    }
-    if hi <= c.key as u64 {
-        return Walk::Bad;
-    }
-    Walk::Whole(rest, c.weight)
+    Some(Whole {
+        rest,
+        sum: c.weight,
+    })
 }
 
 // An edge of weight w to an inner node, whose subtrees have the sums al and bl.
-#[tactic(auto, using(crate::proofs::Tours::join_good, crate::proofs::Tours::join_bad))]
-pub fn join(w: u32, rest: u32, al: u32, bl: u32) -> Walk
+#[tactic(auto, unfolding(crate::specs::Visits::join_walk))]
+pub fn join(w: u32, rest: u32, al: u32, bl: u32) -> Option<Whole>
     ensures { result ≡ join_walk w rest al bl }
 {
-    if al != bl {
-        return Walk::Bad;
+    let sum = w.checked_add(al)?;
+    if al != bl || MOST_SUM < sum {
+        return None;
     }
-    let sum = w as u64 + al as u64;
-    if (MOST_SUM as u64) < sum {
-        return Walk::Bad;
-    }
-    Walk::Whole(rest, sum as u32)
+    Some(Whole { rest, sum })
 }
 
 // The tree at slot s, its keys from lo to below hi, at most `left` nodes deep, of at most `most` nodes. A right side may have the nodes
 // that its left side left over, and the first fault ends the walk: at most most + 1 calls in all, on any words (`tree_visits` in
 // proofs/Visits.antt).
 #[tactic(auto, using(crate::proofs::Tours::tour_deep, crate::proofs::Tours::tour_many, crate::proofs::Tours::tour_outside, crate::proofs::Tours::tour_leaf, crate::proofs::Tours::tour_inner, crate::proofs::Tours::inner_left, crate::proofs::Tours::inner_right, crate::proofs::Tours::inner_both))]
-fn walk_tree(pool: &[u32], s: u32, lo: u64, hi: u64, left: u32, most: u32) -> Walk
+fn walk_tree(pool: &[u32], s: u32, lo: u64, hi: u64, left: u32, most: u32) -> Option<Whole>
     ensures { result ≡ (tree_tour left pool.now s lo hi most).answer }
 {
-    if left < 1 {
-        return Walk::Bad;
-    }
-    if most < 1 {
-        return Walk::Bad;
-    }
-    if !is_slot(pool, s) {
-        return Walk::Bad;
+    if left < 1 || most < 1 || !is_slot(pool, s) {
+        return None;
     }
     let c = get_slot(pool, s);
     if c.left == 0 {
         return walk_leaf(c, lo, hi, most - 1);
     }
     let mid = c.key as u64 + 1;
-    let Walk::Whole(more, al) = walk_tree(pool, c.left, lo, mid, left - 1, most - 1) else {
-        return Walk::Bad;
-    };
-    let Walk::Whole(rest, bl) = walk_tree(pool, c.right, mid, hi, left - 1, more) else {
-        return Walk::Bad;
-    };
-    join(c.weight, rest, al, bl)
+    let l = walk_tree(pool, c.left, lo, mid, left - 1, most - 1)?;
+    let r = walk_tree(pool, c.right, mid, hi, left - 1, l.rest)?;
+    join(c.weight, r.rest, l.sum, r.sum)
 }
 
 // The whole tree, none where the root is 0: the nodes left over, and L.
-#[tactic(auto, using(crate::proofs::Tours::top_none, crate::proofs::Tours::top_weight, crate::proofs::Tours::top_tree, crate::proofs::Visits::sum_from_weight))]
-fn walk_top(pool: &[u32], root: u32, left: u32, most: u32) -> Walk
+#[tactic(auto, using(crate::proofs::Visits::sum_from_weight), unfolding(crate::specs::Visits::top_tour))]
+fn walk_top(pool: &[u32], root: u32, left: u32, most: u32) -> Option<Whole>
     ensures { result ≡ (top_tour pool.now root left most).answer }
 {
     if root == 0 {
-        return Walk::Whole(most, 0);
+        return Some(Whole { rest: most, sum: 0 });
     }
-    let c = get_slot(pool, root);
-    if c.weight != ROOT_WEIGHT {
-        return Walk::Bad;
+    if get_slot(pool, root).weight != ROOT_WEIGHT {
+        return None;
     }
-    let Walk::Whole(rest, l) = walk_tree(pool, root, 0, KEY_END, left, most) else {
-        return Walk::Bad;
-    };
-    Walk::Whole(rest, l - ROOT_WEIGHT)
+    let t = walk_tree(pool, root, 0, KEY_END, left, most)?;
+    Some(Whole {
+        sum: t.sum - ROOT_WEIGHT,
+        ..t
+    })
 }
 
-#[tactic(auto, using(format::proofs::Slots::slot_eq))]
 fn is_free(c: Slot) -> bool
     ensures { FreeSays c result }
 {
-    if c.key != 0 {
-        return false;
-    }
-    if c.right != 0 {
-        return false;
-    }
-    if c.weight != FREE_WEIGHT {
-        return false;
-    }
-    true
+    c == free_slot(c.left)
 }
 
 // Whether the free chain from slot `first` on has n slots and ends there.
@@ -175,8 +141,7 @@ fn walk_chain(pool: &[u32], first: u32, n: u32) -> bool
     ensures { result ≡ (chain_tour n pool.now first).answer }
 {
     let mut s = first;
-    let mut left = n;
-    while 0 < left {
+    for _ in 0..n {
         if !is_slot(pool, s) {
             return false;
         }
@@ -185,47 +150,44 @@ fn walk_chain(pool: &[u32], first: u32, n: u32) -> bool
             return false;
         }
         s = c.left;
-        left -= 1;
     }
-    if s != 0 {
-        return false;
-    }
-    true
+    s == 0
 }
 
-// The audit. The chain may have C - N slots and the tree N nodes: at most C + 1 visits in all, on any words, and C where the pool passes
-// (`audit_visits_lem` and `passed_visits` in proofs/Visits.antt).
-#[tactic(auto, using(format::proofs::Shown::good_length, format::proofs::AuditCases::audited_length, crate::proofs::Tours::audit_nodes, crate::proofs::Tours::audit_walks, crate::proofs::Tours::walks_chain, crate::proofs::Tours::walks_tree, crate::proofs::Tours::counted_other, crate::proofs::Tours::counted_level, crate::proofs::Tours::counted_all, crate::proofs::Audits::audit_tour_lem))]
-pub fn examine(pool: &[u32]) -> Audited
-    ensures { result ≡ audited pool.now }
+// The audit as it is walked. The chain may have C - N slots and the tree N nodes: at most C + 1 visits in all, on any words, and C where
+// the pool passes (`audit_visits_lem` and `passed_visits` in proofs/Visits.antt).
+#[tactic(auto, using(format::proofs::Shown::good_length), unfolding(crate::specs::Visits::audit_tour, crate::specs::Visits::walks_tour))]
+fn walk_all(pool: &[u32]) -> Result<Header, Unsound>
+    ensures { result ≡ (audit_tour pool.now).answer }
 {
     if !length_good(pool) {
-        return Audited::Length;
+        return Err(Unsound::Length);
     }
     let slots = slots_in(pool) as u32;
     let h = get_header(pool);
-    if slots < h.nodes {
-        return Audited::Broken;
+    if slots < h.nodes || !walk_chain(pool, h.free, slots - h.nodes) {
+        return Err(Unsound::Broken);
     }
-    if !walk_chain(pool, h.free, slots - h.nodes) {
-        return Audited::Broken;
+    let top = walk_top(pool, h.root, allowance(pool), h.nodes).ok_or(Unsound::Broken)?;
+    if top.rest != 0 || top.sum != h.level {
+        return Err(Unsound::Broken);
     }
-    let Walk::Whole(rest, l) = walk_top(pool, h.root, allowance(pool), h.nodes) else {
-        return Audited::Broken;
-    };
-    if rest != 0 {
-        return Audited::Broken;
-    }
-    if l != h.level {
-        return Audited::Broken;
-    }
-    Audited::Passed(h)
+    Ok(h)
+}
+
+// The audit: the header of a pool that keeps the rules, or why it does not.
+#[tactic(auto, using(crate::proofs::Audits::audit_tour_lem))]
+pub fn examine(pool: &[u32]) -> Result<Header, Unsound>
+    ensures { result ≡ audited pool.now }
+{
+    walk_all(pool)
 }
 
 // 01: "audit and report give 0, 1 or 2".
 #[tactic(auto, unfolding(format::specs::Audit::audit_code))]
-pub fn audit(pool: &[u32]) -> u32
-    ensures code { result ≡ audit_code pool.now }
+pub fn audit(pool: &[u32]) -> Result<(), Unsound>
+    ensures code { audited_code result ≡ audit_code pool.now }
 {
-    examine(pool).code()
+    examine(pool)?;
+    Ok(())
 }

@@ -3,7 +3,7 @@
 use mathlib.Core.Path.{◌≡◌, ap, ◌∙◌}
 use mathlib.Core.Logic.{◌≢◌}
 use mathlib.Core.List.{List, [], ◌∷◌, ◌++◌}
-use lib.ListN.{length, length-append}
+use lib.ListN.{length}
 use lib.Seq.{sets, sets-eq}
 use Prim.Native.Nat.{ℕ, ◌+◌, ◌*◌, ◌^◌, ◌≤◌, ◌<◌}
 use native.Mathlib.Omega.{arith}
@@ -15,17 +15,20 @@ use Rattle.tree.specs.State.{Top, full}
 use Rattle.tree.proofs.SoundStates.{sound_total}
 use Rattle.format.specs.declared.Header.{Header}
 use Rattle.format.specs.Words.{last_slot}
-use Rattle.format.specs.Audit.{state_of}
+use Rattle.std.specs.Prelude.{Err}
+use Rattle.format.specs.declared.Unsound.{Unsound}
+use Rattle.format.specs.declared.Unsound.TheVariants.{Length, Broken}
+use Rattle.format.specs.Audit.{state_of, audited, refusal_of}
 use Rattle.format.proofs.Shown.{shows_nodes}
-use Rattle.format.proofs.AuditCases.{Kept}
+use Rattle.format.proofs.AuditCases.{Kept, length_wrong, rules_are_broken}
 use Rattle.pool.specs.Standing.{Standing, allowance}
 use Rattle.pool.proofs.Standing.{Rooted, no_root, root_standing}
 use Rattle.saved.specs.Saved.{tree_numbers, top_numbers, saved_numbers, bytes_of_all, saved_bytes}
-use Rattle.saved.specs.Calls.{save_into}
-use Rattle.saved.proofs.ReadLists.{all_none, all_append}
+use Rattle.saved.specs.Calls.{save_into, save_call}
+use Rattle.saved.proofs.ReadLists.{all_none}
 use Rattle.saved.proofs.Lengths.{saved_length}
-use Rattle.saved.proofs.Restarts.{both, slots_are, into_fits, into_short}
-use Rattle.save.specs.Writing.{Stands, Counts, Placed, Put, Puts}
+use Rattle.saved.proofs.Restarts.{both, slots_are, into_fits, into_short, save_length, save_broken}
+use Rattle.save.specs.Writing.{Stands, Placed, Put, Puts}
 use Rattle.save.proofs.Writing.{put_then}
 
 abbrev widen : {p : List ℕ} {s n left : ℕ} → Standing p s n left → Stands p s left
@@ -42,9 +45,6 @@ module _ {p : List ℕ} {h : Header} (K : Kept p h) where
     unfolding top_numbers
     no_numbers = rw (no_root K none)
 
-    pub nodes_none : 0 ≡ length (bytes_of_all (top_numbers (state_of p).top))
-    nodes_none = rw (no_numbers, all_none)
-
     pub put_none : (out : List ℕ) (at : ℕ) → Put (top_numbers (state_of p).top) out out at at
     put_none out at = record { next = rw (no_numbers, all_none) (omega arith); wrote = rw (no_numbers, all_none) }
 
@@ -53,14 +53,8 @@ module _ {p : List ℕ} {h : Header} (K : Kept p h) where
     rooted : Rooted p h
     rooted = root_standing K some-root
 
-    pub root_stands : Stands p h.root left
-    root_stands = rw allowed (widen rooted.standing)
-
     numbers_are : tree_numbers rooted.standing.weight rooted.standing.tree ≡ top_numbers (state_of p).top
     numbers_are = top_tree rooted.top_is rooted.weight_is
-
-    pub nodes_counted : {r : ℕ} → Counts p h.root left r → r ≡ length (bytes_of_all (top_numbers (state_of p).top))
-    nodes_counted f = (rw allowed at f) (widen rooted.standing) ∙ ap (λ (vs : List ℕ). length (bytes_of_all vs)) numbers_are
 
     pub root_placed : {at : ℕ} → at < 2 ^ 32 → Placed p h.root left at
     root_placed few = rw allowed (record { standing = widen rooted.standing; room = omega (arith, rooted.standing.inside, rooted.standing.few) })
@@ -77,13 +71,9 @@ module _ {p : List ℕ} {h : Header} (K : Kept p h) where
     unfolding saved_bytes saved_numbers
     saved_is = rw (slots_same, shows_nodes K.shows)
 
-    pub saved_count : {m n : ℕ} → m ≡ length (bytes_of_all (c ∷ (h.nodes ∷ []))) → n ≡ length (bytes_of_all (top_numbers (state_of p).top))
-        → m + n ≡ length (saved_bytes (state_of p))
-    saved_count e f = rw (saved_is, all_append (c ∷ (h.nodes ∷ [])) (top_numbers (state_of p).top), length-append) (omega arith)
-
     pub saved_wrote : {i r : ℕ} {out mid end : List ℕ} → Put (c ∷ (h.nodes ∷ [])) out mid 0 i → Put (top_numbers (state_of p).top) mid end i r
-        → end ≡ sets out 0 (saved_bytes (state_of p))
-    saved_wrote a b = rw saved_is (put_then a b).wrote
+        → (r ≡ length (saved_bytes (state_of p))) × (end ≡ sets out 0 (saved_bytes (state_of p)))
+    saved_wrote a b = let all = put_then a b in rw saved_is (omega (arith, all.next), all.wrote)
 
   pub saved_small : length (saved_bytes (state_of p)) ≤ 7 * most_slots + 4
   saved_small = omega (arith, saved_length K.sound, sound_total K.sound, K.sound.few)
@@ -98,3 +88,12 @@ module _ (bytes out : List ℕ) {n : ℕ} (count : n ≡ length bytes) where
       let z : 0 + length bytes ≡ length bytes = omega arith in
       let b = both (into_fits bytes out (omega arith)) in
       (ap Done count ∙ b.0, w ∙ (sets-eq bytes out 0 (omega arith) ∙ rw z b.1))
+
+-- What the audit refuses, and what it does not.
+pub unsound_refused : (p out : List ℕ) {u : Unsound} → audited p ≡ Err u
+    → (Refused (refusal_of u) ≡ (save_call p out).answer) × (out ≡ (save_call p out).left)
+unsound_refused p out {u} e = go u e
+  where
+    go : (v : Unsound) → audited p ≡ Err v → (Refused (refusal_of v) ≡ (save_call p out).answer) × (out ≡ (save_call p out).left)
+    go Length f = both (save_length p out (length_wrong p f))
+    go Broken f = let x = rules_are_broken p f in both (save_broken p out x.0 x.1)

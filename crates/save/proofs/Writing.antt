@@ -16,11 +16,12 @@ use Rattle.format.specs.Words.{slot_at}
 use Rattle.pool.specs.Walks.{most_sum}
 use Rattle.pool.proofs.Standing.{Children, standing_weight, standing_leaf, standing_node}
 use Rattle.numbers.specs.Shortest.{bytes_of}
+use Rattle.numbers.proofs.Putting.{bytes_most}
 use Rattle.saved.specs.Saved.{tree_numbers, bytes_of_all}
 use Rattle.saved.proofs.ReadLists.{all_none, all_more, all_append}
 use Rattle.saved.proofs.States.{size_pos}
-use Rattle.saved.proofs.Lengths.{key_bytes, node_length, tree_length}
-use Rattle.save.specs.Writing.{first_number, Stands, Counts, Placed, Put, Puts}
+use Rattle.saved.proofs.Lengths.{node_length, tree_length}
+use Rattle.save.specs.Writing.{first_number, Stands, Placed, Put, Puts}
 
 -- Writing one list after another is writing both.
 sets_append : (l : List ℕ) (i : ℕ) (xs ys : List ℕ) → sets (sets l i xs) (i + length xs) ys ≡ sets l i (xs ++ ys)
@@ -44,7 +45,7 @@ module _ (a b : ℕ) where
   pair_length_is = rw (all_more a (b ∷ []), all_more b [], all_none, append-nil, length-append)
 
   pub pair_most : length (bytes_of_all (a ∷ (b ∷ []))) ≤ 10
-  pair_most = omega (arith, pair_length_is, key_bytes a, key_bytes b)
+  pair_most = omega (arith, pair_length_is, bytes_most a, bytes_most b)
 
   pub put_both : {out mid end : List ℕ} {at n m : ℕ} → mid ≡ sets out at (bytes_of a) → n ≡ length (bytes_of a) → end ≡ sets mid (at + n) (bytes_of b)
       → m ≡ length (bytes_of b) → Put (a ∷ (b ∷ [])) out end at (at + n + m)
@@ -87,9 +88,6 @@ module _ {p : List ℕ} {s left : ℕ} {c : Slot} (read : c ≡ slot_at p s) (ba
   unfolding tree_numbers
   leaf_numbers S = ap (tree_numbers S.weight) (standing_leaf S read bare) ∙ rw (first_leaf c bare, standing_weight S read)
 
-  pub count_leaf : {r : ℕ} → r ≡ length (bytes_of_all (own c)) → Counts p s left r
-  count_leaf e S = rw (leaf_numbers S) e
-
   pub put_leaf : {out end : List ℕ} {at r : ℕ} → Put (own c) out end at r → Puts p s left out end at r
   put_leaf a S = rw (leaf_numbers S) a
 
@@ -111,28 +109,11 @@ module _ {p : List ℕ} {s left : ℕ} {c : Slot} (read : c ≡ slot_at p s) (in
       ap (tree_numbers S.weight) (sons S).tree_is
       ∙ ap (λ (a : ℕ). a ∷ (c.key ∷ (tree_numbers L.weight L.tree ++ tree_numbers R.weight R.tree))) (first_is S)
 
-  node_lengths : (S : Stands p s left)
-      → let L = (sons S).on_left in let R = (sons S).on_right in
-      length (bytes_of_all (tree_numbers S.weight S.tree))
-      ≡ length (bytes_of_all (own c)) + length (bytes_of_all (tree_numbers L.weight L.tree)) + length (bytes_of_all (tree_numbers R.weight R.tree))
-  node_lengths S =
-      let L = (sons S).on_left in
-      let R = (sons S).on_right in
-      let ls = tree_numbers L.weight L.tree in
-      let rs = tree_numbers R.weight R.tree in
-      ap (λ (vs : List ℕ). length (bytes_of_all vs)) (node_numbers_lem S) ∙ rw (all_append (own c) (ls ++ rs), all_append ls rs, length-append, length-append) (omega arith)
-
   node_size : (S : Stands p s left) → size S.tree ≡ 1 + size (sons S).on_left.tree + size (sons S).on_right.tree
   unfolding size
   node_size S = ap size (sons S).tree_is
 
   -- What is said of the node.
-  pub count_node : {n l r : ℕ} → n ≡ length (bytes_of_all (own c)) → Counts p c.left (left - 1) l → Counts p c.right (left - 1) r → Counts p s left (n + l + r)
-  count_node e f g S = omega (arith, node_lengths S, f (sons S).on_left, g (sons S).on_right)
-
-  pub node_fits : {n l r : ℕ} → Stands p s left → n ≡ length (bytes_of_all (own c)) → Counts p c.left (left - 1) l → Counts p c.right (left - 1) r → n + l + r < 2 ^ 64
-  node_fits S e f g = omega (arith, count_node e f g S, stands_few S, S.inside)
-
   pub put_node : {out mid more end : List ℕ} {at i j r : ℕ} → Put (own c) out mid at i → Puts p c.left (left - 1) mid more i j
       → Puts p c.right (left - 1) more end j r → Puts p s left out end at r
   put_node a f g S = rw (node_numbers_lem S) (put_then a (put_then (f (sons S).on_left) (g (sons S).on_right)))

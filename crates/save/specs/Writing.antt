@@ -15,10 +15,6 @@ first_number c = elim (eqb c.left 0) [ true ↦ 2 * c.weight | false ↦ 2 * c.w
 abbrev pub Stands : List ℕ → ℕ → ℕ → Type 0
 Stands p s left = Standing p s most_slots left
 
--- r is how many bytes it takes, whatever tree stands there
-abbrev pub Counts : List ℕ → ℕ → ℕ → ℕ → Type 0
-Counts p s left r = (S : Stands p s left) → r ≡ length (bytes_of_all (tree_numbers S.weight S.tree))
-
 -- seven bytes a node from place `at` on are no further than a place can be
 pub record Placed (p : List ℕ) (s left at : ℕ) : Type 0 where
   pub standing : Stands p s left

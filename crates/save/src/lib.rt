@@ -2,29 +2,22 @@
 // plus 1 for an inner node; then the key or router."
 #![tactic(auto)]
 
-ghost use Rattle.std.specs.Prelude.{◌≡◌, [], ◌∷◌, length, ◌+◌, ◌^◌, ◌≤◌, ◌<◌};
-ghost use Rattle.format.specs.declared.Audited.TheVariants.{Passed};
+ghost use Rattle.std.specs.Prelude.{◌≡◌, Ok, [], ◌∷◌, length, ◌+◌, ◌^◌, ◌≤◌, ◌<◌};
 ghost use Rattle.format.specs.Audit.{state_of, audited};
 ghost use Rattle.pool.specs.Walks.{most_sum};
 ghost use Rattle.saved.specs.Saved.{top_numbers, bytes_of_all, saved_bytes};
 ghost use Rattle.saved.specs.Calls.{save_into, save_call};
-ghost use Rattle.save.specs.Writing.{first_number, Stands, Counts, Placed, Put, Puts};
+ghost use Rattle.save.specs.Writing.{first_number, Placed, Put, Puts};
+ghost use Rattle.std.proofs.lemmas.List.Edits.{sets};
+ghost use Rattle.tree.specs.Codes.{answer_of};
 
-use format::{Audited, Header, Slot};
-use numbers::{number_length, put_number};
+use format::{Header, Slot};
+use numbers::put_number;
 use pool::{allowance, examine};
 use slots::{get_slot, last_slot};
-use tree::{Answer, Refusal};
+use tree::Refusal;
 
 const TWICE: u32 = 2;
-
-// How many bytes two numbers take.
-#[tactic(auto, using(crate::proofs::Writing::pair_length_is))]
-fn pair_length(a: u32, b: u32) -> usize
-    ensures { result ≡ length (bytes_of_all (a ∷ b ∷ [])) }
-{
-    number_length(a) + number_length(b)
-}
 
 // Writes two numbers from place `at` on, and answers the place after them.
 #[tactic(auto, using(crate::proofs::Writing::pair_length_is))]
@@ -49,21 +42,6 @@ fn first_number(c: Slot) -> u32
     }
 }
 
-// How many bytes the tree at slot s takes, which is at most `left` nodes deep.
-fn tree_length(pool: &[u32], s: u32, left: u32) -> usize
-    requires { Stands pool.now s left }
-    ensures { Counts pool.now s left result }
-{
-    let c = get_slot(pool, s);
-    let own = pair_length(first_number(c), c.key);
-    if c.left == 0 {
-        return own;
-    }
-    let l = tree_length(pool, c.left, left - 1);
-    let r = tree_length(pool, c.right, left - 1);
-    own + l + r
-}
-
 // Writes the tree at slot s from place `at` on, and answers the place after it: "node before its left subtree before its right".
 fn put_tree(pool: &[u32], out: &mut [u8], s: u32, at: usize, left: u32) -> usize
     requires { Placed pool.now s left at }
@@ -79,20 +57,9 @@ fn put_tree(pool: &[u32], out: &mut [u8], s: u32, at: usize, left: u32) -> usize
 }
 
 // The same of all nodes of a pool that passed the audit: none where the root is 0.
-#[tactic(auto, using(format::proofs::AuditCases::rules_are_kept, crate::proofs::Whole::nodes_none, crate::proofs::Whole::root_stands))]
-fn nodes_length(pool: &[u32], h: Header) -> usize
-    requires { audited pool.now ≡ Passed h }
-    ensures { result ≡ length (bytes_of_all (top_numbers (state_of pool.now).top)) }
-{
-    if h.root == 0 {
-        return 0;
-    }
-    tree_length(pool, h.root, allowance(pool))
-}
-
 #[tactic(auto, using(format::proofs::AuditCases::rules_are_kept, crate::proofs::Whole::root_placed))]
 fn put_nodes(pool: &[u32], out: &mut [u8], h: Header, at: usize) -> usize
-    requires { (audited pool.now ≡ Passed h) × (at < 2 ^ 32) }
+    requires { (audited pool.now ≡ Ok h) × (at < 2 ^ 32) }
     ensures { Put (top_numbers (state_of pool.now).top) out.old out.new at result }
 {
     if h.root == 0 {
@@ -101,32 +68,39 @@ fn put_nodes(pool: &[u32], out: &mut [u8], h: Header, at: usize) -> usize
     put_tree(pool, out, h.root, at, allowance(pool))
 }
 
-// A pool that passed the audit: the bytes are counted before the first is written.
-#[tactic(auto, using(format::proofs::AuditCases::rules_are_kept, crate::proofs::Writing::pair_most, crate::proofs::Whole::saved_count, crate::proofs::Whole::saved_small, crate::proofs::Whole::saved_wrote, crate::proofs::Whole::no_fit, crate::proofs::Whole::fit))]
-fn save_kept(pool: &[u32], out: &mut [u8], h: Header) -> Answer
-    requires { audited pool.now ≡ Passed h }
-    ensures answer { result ≡ (save_into (saved_bytes (state_of pool.now)) out.old).answer }
-    ensures out { out.new ≡ (save_into (saved_bytes (state_of pool.now)) out.old).left }
+// All of a pool that passed the audit, from the first byte on, as far as there is room; and how many bytes it is.
+#[tactic(auto, using(format::proofs::AuditCases::rules_are_kept, crate::proofs::Writing::pair_most, crate::proofs::Whole::saved_wrote))]
+fn put_saved(pool: &[u32], out: &mut [u8], h: Header) -> usize
+    requires { audited pool.now ≡ Ok h }
+    ensures count { result ≡ length (saved_bytes (state_of pool.now)) }
+    ensures out { out.new ≡ sets out.old 0 (saved_bytes (state_of pool.now)) }
 {
     let slots = last_slot(pool);
-    let count = pair_length(slots, h.nodes) + nodes_length(pool, h);
-    if out.len() < count {
-        return Answer::Refused(Refusal::NoFit);
-    }
     let at = put_pair(out, 0, slots, h.nodes);
-    put_nodes(pool, out, h, at);
-    Answer::Done(count as u32)
+    put_nodes(pool, out, h, at)
+}
+
+// The bytes are counted before the first is written: a count is a writing for which there is no room.
+#[tactic(auto, using(format::proofs::AuditCases::rules_are_kept, crate::proofs::Whole::saved_small, crate::proofs::Whole::no_fit, crate::proofs::Whole::fit))]
+fn save_kept(pool: &[u32], out: &mut [u8], h: Header) -> Result<u32, Refusal>
+    requires { audited pool.now ≡ Ok h }
+    ensures answer { answer_of result ≡ (save_into (saved_bytes (state_of pool.now)) out.old).answer }
+    ensures out { out.new ≡ (save_into (saved_bytes (state_of pool.now)) out.old).left }
+{
+    let count = put_saved(pool, &mut [], h);
+    if out.len() < count {
+        return Err(Refusal::NoFit);
+    }
+    put_saved(pool, out, h);
+    Ok(count as u32)
 }
 
 // "The writer takes any pool that passes the audit. [..] The writer answers 0 and the byte count".
-#[tactic(auto, using(format::proofs::AuditCases::length_wrong, format::proofs::AuditCases::rules_are_broken, format::proofs::AuditCases::rules_are_kept, saved::proofs::Restarts::both, saved::proofs::Restarts::save_length, saved::proofs::Restarts::save_broken, saved::proofs::Restarts::save_kept))]
-pub fn save(pool: &[u32], out: &mut [u8]) -> Answer
-    ensures answer { result ≡ (save_call pool.now out.old).answer }
+#[tactic(auto, using(format::proofs::AuditCases::rules_are_kept, saved::proofs::Restarts::save_kept, crate::proofs::Whole::unsound_refused))]
+pub fn save(pool: &[u32], out: &mut [u8]) -> Result<u32, Refusal>
+    ensures answer { answer_of result ≡ (save_call pool.now out.old).answer }
     ensures out { out.new ≡ (save_call pool.now out.old).left }
 {
-    match examine(pool) {
-        Audited::Length => Answer::Refused(Refusal::PoolLength),
-        Audited::Broken => Answer::Refused(Refusal::RulesBroken),
-        Audited::Passed(h) => save_kept(pool, out, h),
-    }
+    let h = examine(pool)?;
+    save_kept(pool, out, h)
 }

@@ -3,7 +3,7 @@
 use mathlib.Core.Path.{◌≡◌}
 use mathlib.Core.List.{List, [], ◌∷◌, ◌++◌}
 use lib.ListN.{length, length-append}
-use Prim.Native.Nat.{ℕ, zero, suc, ◌+◌, ◌*◌, ◌/◌, ◌≤◌, ◌<◌}
+use Prim.Native.Nat.{ℕ, suc, ◌+◌, ◌*◌, ◌/◌, ◌≤◌, ◌<◌}
 use native.Mathlib.Omega.{arith}
 use native.Mathlib.Decide.{dec_lt}
 use Rattle.tree.specs.Codes.{most_level}
@@ -13,17 +13,9 @@ use Rattle.tree.proofs.Order.{ordered_bounds}
 use Rattle.tree.proofs.SoundStates.{sound_total}
 use Rattle.numbers.specs.Shortest.{shortest, bytes_of}
 use Rattle.numbers.proofs.Took.{shortest_last, shortest_more}
+use Rattle.numbers.proofs.Putting.{bytes_most}
 use Rattle.saved.specs.Saved.{tree_numbers, top_numbers, saved_numbers, bytes_of_all, saved_bytes}
 use Rattle.saved.proofs.ReadLists.{Small, small_none, small_more, small_append, all_none, all_more, all_append}
-
-five_bytes : (n v : ℕ) → length (shortest n v) ≤ suc n
-unfolding shortest
-five_bytes zero v = omega arith
-five_bytes (suc n) v = go (dec_lt v 128) (five_bytes n (v / 128))
-  where
-    go : Dec (v < 128) → length (shortest n (v / 128)) ≤ suc n → length (shortest (suc n) v) ≤ suc (suc n)
-    go (yes h) i = rw (shortest_last (suc n) v h) (omega arith)
-    go (no h) i = rw (shortest_more n v (omega arith)) (omega arith)
 
 two_bytes : (v : ℕ) → v < 16384 → length (bytes_of v) ≤ 2
 unfolding bytes_of
@@ -33,16 +25,12 @@ two_bytes v h = go (dec_lt v 128)
     go (yes i) = rw (shortest_last 4 v i) (omega arith)
     go (no i) = rw (shortest_more 3 v (omega arith), shortest_last 3 (v / 128) (omega arith)) (omega arith)
 
-pub key_bytes : (v : ℕ) → length (bytes_of v) ≤ 5
-unfolding bytes_of
-key_bytes v = five_bytes 4 v
-
 no_bytes : length (bytes_of_all []) ≡ 0
 no_bytes = rw all_none
 
 -- A node's two numbers.
 pair_length : (a k : ℕ) (vs : List ℕ) → a < 16384 → length (bytes_of_all (a ∷ (k ∷ vs))) ≤ 7 + length (bytes_of_all vs)
-pair_length a k vs h = rw (all_more a (k ∷ vs), all_more k vs, length-append, length-append) (omega (arith, two_bytes a h, key_bytes k))
+pair_length a k vs h = rw (all_more a (k ∷ vs), all_more k vs, length-append, length-append) (omega (arith, two_bytes a h, bytes_most k))
 
 pub node_length : (a k : ℕ) → a < 16384 → length (bytes_of_all (a ∷ (k ∷ []))) ≤ 7
 node_length a k h = omega (arith, pair_length a k [] h, no_bytes)

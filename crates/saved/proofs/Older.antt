@@ -20,11 +20,10 @@ use Rattle.tree.specs.declared.Refusal.TheVariants.{BadSaved, NoFit}
 use Rattle.tree.specs.Codes.{most_slots}
 use Rattle.tree.specs.State.{State, Top}
 use Rattle.format.specs.Words.{length_good, slots_in}
-use Rattle.encoding.specs.declared.Number.{Number}
-use Rattle.encoding.specs.declared.Number.TheVariants.{Read, Wrong}
-use Rattle.encoding.specs.Numbers.{number}
+use Rattle.encoding.specs.Numbers.{Reading, number}
+use Rattle.std.specs.Prelude.{Ok, Err}
 use Rattle.saved.specs.Saved.{with_rest}
-use Rattle.saved.specs.Loaded.{Numbers, numbers, misread, before, numbers_at, node_numbers, count_numbers, numbers_in, top_from, is_count, with_top, state_from, loaded_numbers, loaded_up_to, loaded, place_in, bad_place}
+use Rattle.saved.specs.Loaded.{before, numbers_at, node_numbers, count_numbers, numbers_in, top_from, is_count, with_top, state_from, loaded_numbers, loaded_up_to, loaded, place_in, bad_place}
 use Rattle.saved.specs.Calls.{refuses, load_state, load_call, place_word}
 use Rattle.saved.specs.Older.{most_before, load_before}
 use Rattle.saved.proofs.Restarts.{load_differs}
@@ -69,12 +68,12 @@ module _ (few most : ℕ) (h : few ≤ most) where
       go (no k) true e = rw (same_within c n (omega arith), e, state_from, cut_within few c (omega arith) (top_from n vs))
       go (no k) false e = rw (same_within c n (omega arith), e, state_from)
 
-  numbers_cut : (end : ℕ) (x : Numbers) → loaded_numbers few end x ≡ cut few (loaded_numbers most end x)
+  numbers_cut : (end : ℕ) (x : Reading (List ℕ)) → loaded_numbers few end x ≡ cut few (loaded_numbers most end x)
   unfolding cut loaded_numbers
-  numbers_cut end (misread j) = refl
-  numbers_cut end (numbers vs next) = go (eqb next end) refl
+  numbers_cut end (Err f) = refl
+  numbers_cut end (Ok (vs, next)) = go (eqb next end) refl
     where
-      go : (b : Bool) → eqb next end ≡ b → loaded_numbers few end (numbers vs next) ≡ cut few (loaded_numbers most end (numbers vs next))
+      go : (b : Bool) → eqb next end ≡ b → loaded_numbers few end (Ok (vs, next)) ≡ cut few (loaded_numbers most end (Ok (vs, next)))
       go true e = rw (e, loaded_numbers, state_cut vs)
       go false e = rw (e, loaded_numbers)
 
@@ -102,31 +101,31 @@ module _ (few most : ℕ) (h : few ≤ most) where
 
 -- Bytes that begin with a C above the limit.
 module _ (most c n : ℕ) (h : most < c) where
-  above_none : (end : ℕ) (x : Numbers) → loaded_numbers most end (before c (before n x)) ≡ none
+  above_none : (end : ℕ) (x : Reading (List ℕ)) → loaded_numbers most end (before c (before n x)) ≡ none
   unfolding loaded_numbers before state_from
-  above_none end (misread j) = refl
-  above_none end (numbers vs next) = go (eqb next end) refl
+  above_none end (Err f) = refl
+  above_none end (Ok (vs, next)) = go (eqb next end) refl
     where
-      go : (b : Bool) → eqb next end ≡ b → loaded_numbers most end (numbers (c ∷ (n ∷ vs)) next) ≡ none
+      go : (b : Bool) → eqb next end ≡ b → loaded_numbers most end (Ok (c ∷ (n ∷ vs), next)) ≡ none
       go true e = rw (e, loaded_numbers, none_above most c n h, state_from)
       go false e = rw (e, loaded_numbers)
 
-above_unread : (most : ℕ) (bytes : List ℕ) {c next : ℕ} → number bytes 0 ≡ Read c next → most < c → loaded_up_to most bytes ≡ none
+above_unread : (most : ℕ) (bytes : List ℕ) {c next : ℕ} → number bytes 0 ≡ Ok (c, next) → most < c → loaded_up_to most bytes ≡ none
 unfolding loaded_up_to numbers_in count_numbers node_numbers loaded_numbers
 above_unread most bytes {c} {next} e h = rw e (go (number bytes next))
   where
-    go : (x : Number) → loaded_numbers most (length bytes) (node_numbers bytes c x) ≡ none
-    go (Read n after) = above_none most c n h (length bytes) (numbers_at (2 * n) bytes after)
-    go (Wrong j) = refl
+    go : (x : Reading ℕ) → loaded_numbers most (length bytes) (node_numbers bytes c x) ≡ none
+    go (Ok (n, after)) = above_none most c n h (length bytes) (numbers_at (2 * n) bytes after)
+    go (Err f) = refl
 
 -- Of bytes that are read no number goes wrong.
 read_place : (most : ℕ) (bytes : List ℕ) {S : State} → loaded_up_to most bytes ≡ some S → bad_place bytes ≡ length bytes
 unfolding loaded_up_to loaded_numbers bad_place place_in
 read_place most bytes {S} = go (numbers_in bytes)
   where
-    go : (x : Numbers) → loaded_numbers most (length bytes) x ≡ some S → place_in (length bytes) x ≡ length bytes
-    go (misread j) e = let z : ◌≡◌ {A = ℕ} 0 1 = cc in absurd (omega arith)
-    go (numbers vs next) e = refl
+    go : (x : Reading (List ℕ)) → loaded_numbers most (length bytes) x ≡ some S → place_in (length bytes) x ≡ length bytes
+    go (Err f) e = let z : ◌≡◌ {A = ℕ} 0 1 = cc in absurd (omega arith)
+    go (Ok (vs, next)) e = refl
 
 -- "A saved form written before reads as it did."
 pub read_as_before : (bytes : List ℕ) {S : State} → loaded_up_to most_before bytes ≡ some S → loaded bytes ≡ some S
@@ -147,7 +146,7 @@ module _ (p bytes : List ℕ) (long : length_good p ≡ true) (known : slots_in 
   before_is = rw (long, le-leb (slots_in p) most_before known, load_before)
 
   -- "An installation not yet updated refuses a saved C above 1,023 with 13 and writes nothing."
-  pub before_refuses : {c next : ℕ} → number bytes 0 ≡ Read c next → most_before < c → load_before p bytes ≡ refuses (BadSaved (place_word (bad_place bytes))) p
+  pub before_refuses : {c next : ℕ} → number bytes 0 ≡ Ok (c, next) → most_before < c → load_before p bytes ≡ refuses (BadSaved (place_word (bad_place bytes))) p
   unfolding load_state
   before_refuses e large = before_is ∙ rw (above_unread most_before bytes e large)
 

@@ -10,10 +10,11 @@ use lib.ListN.{length}
 use Prim.Native.Nat.{ℕ, zero, suc, ◌*◌, ◌-◌, ◌≤◌, ◌<◌}
 use native.Mathlib.Numerals.{sub-one}
 use native.Mathlib.Omega.{arith}
-use Rattle.encoding.specs.declared.Number.TheVariants.{Read, Wrong}
-use Rattle.encoding.specs.Numbers.{Bytes, number}
+use Rattle.std.specs.Prelude.{Ok, Err}
+use Rattle.encoding.specs.Numbers.{Reading, Bytes, number}
 use Rattle.numbers.proofs.Faults.{bad_near, number_bad}
-use Rattle.saved.specs.Loaded.{Numbers, numbers, misread, before, numbers_at, node_numbers, count_numbers, numbers_in, loaded_numbers, loaded_up_to, loaded, place_in, bad_place}
+use Rattle.encoding.specs.declared.Fault.{Fault}
+use Rattle.saved.specs.Loaded.{before, numbers_at, node_numbers, count_numbers, numbers_in, loaded_numbers, loaded_up_to, loaded, place_in, bad_place}
 use Rattle.saved.specs.Misread.{Reads, reads_none, reads_more, asked, Unwritten, MisreadAt, bad_number, no_whole}
 use Rattle.saved.specs.Calls.{last_word, place_word}
 use Rattle.saved.proofs.ReadLists.{at_more, at_wrong, reads_wrong}
@@ -21,31 +22,31 @@ use Rattle.saved.proofs.Saves.{in_reads, InSays, numbers_in_lem, refused_exactly
 
 module _ (bytes : List ℕ) where
   -- what is read, and the place
-  place_misread : {j : ℕ} → numbers_in bytes ≡ misread j → (loaded bytes ≡ none) × (bad_place bytes ≡ j)
+  place_misread : {f : Fault} → numbers_in bytes ≡ Err f → (loaded bytes ≡ none) × (bad_place bytes ≡ f.place)
   unfolding loaded_up_to loaded_numbers bad_place place_in
   place_misread e = (rw e, rw e)
 
-  place_read : {vs : List ℕ} {next : ℕ} → numbers_in bytes ≡ numbers vs next → bad_place bytes ≡ length bytes
+  place_read : {vs : List ℕ} {next : ℕ} → numbers_in bytes ≡ Ok (vs, next) → bad_place bytes ≡ length bytes
   unfolding bad_place place_in
   place_read e = rw e
 
   -- Some numbers that stand in the bytes: fewer than are asked for, and the next goes wrong; or all.
-  wrong_in : {vs : List ℕ} {i j : ℕ} → Reads bytes 0 vs i → length vs < asked vs → number bytes i ≡ Wrong j → numbers_in bytes ≡ misread j
+  wrong_in : {vs : List ℕ} {i : ℕ} {f : Fault} → Reads bytes 0 vs i → length vs < asked vs → number bytes i ≡ Err f → numbers_in bytes ≡ Err f
   unfolding numbers_in count_numbers node_numbers before
   wrong_in reads_none l w = rw w
   wrong_in (reads_more e reads_none) l w = rw (e, w)
   wrong_in (reads_more e (reads_more {v = n} f r)) l w = rw (e, f, reads_wrong (2 * n) r (omega arith) w)
 
-  all_in : {vs : List ℕ} {i : ℕ} → Reads bytes 0 vs i → length vs ≡ asked vs → numbers_in bytes ≡ numbers vs i
+  all_in : {vs : List ℕ} {i : ℕ} → Reads bytes 0 vs i → length vs ≡ asked vs → numbers_in bytes ≡ Ok (vs, i)
   all_in reads_none l = absurd (omega arith)
   all_in (reads_more e reads_none) l = absurd (omega arith)
   all_in (reads_more e (reads_more {v = n} {vs = vs} f r)) l = in_reads (reads_more e (reads_more f r)) (omega arith)
 
   module _ (b : Bytes bytes) where
-    misread_there : Unwritten bytes → (x : Numbers) → InSays bytes x → MisreadAt bytes (place_in (length bytes) x)
+    misread_there : Unwritten bytes → (x : Reading (List ℕ)) → InSays bytes x → MisreadAt bytes (place_in (length bytes) x)
     unfolding place_in
-    misread_there h (misread j) s = bad_number s.2 s.3 ((number_bad bytes s.1 j).0 s.4)
-    misread_there h (numbers vs next) s = no_whole s.0 s.1 h
+    misread_there h (Err f) s = bad_number s.2 s.3 ((number_bad bytes s.1 f.place).0 s.4)
+    misread_there h (Ok (vs, next)) s = no_whole s.0 s.1 h
 
     pub place_there : loaded bytes ≡ none → MisreadAt bytes (bad_place bytes)
     unfolding bad_place
@@ -67,36 +68,36 @@ module _ (bytes : List ℕ) where
 
 -- The place, one number more, by cases: how the reader's code finds it.
 module _ (bytes : List ℕ) where
-  one_placed : (v : ℕ) (x : Numbers) → place_in (length bytes) (before v x) ≡ place_in (length bytes) x
+  one_placed : (v : ℕ) (x : Reading (List ℕ)) → place_in (length bytes) (before v x) ≡ place_in (length bytes) x
   unfolding before place_in
-  one_placed v (misread j) = refl
-  one_placed v (numbers vs next) = refl
+  one_placed v (Err f) = refl
+  one_placed v (Ok (vs, next)) = refl
 
   pub place_end : (n i : ℕ) → n ≡ 0 → place_in (length bytes) (numbers_at n bytes i) ≡ length bytes
   unfolding numbers_at place_in
   place_end n i e = rw e
 
-  pub place_next : (n i : ℕ) {v next : ℕ} → 0 < n → number bytes i ≡ Read v next
+  pub place_next : (n i : ℕ) {v next : ℕ} → 0 < n → number bytes i ≡ Ok (v, next)
       → place_in (length bytes) (numbers_at n bytes i) ≡ place_in (length bytes) (numbers_at (n - 1) bytes next)
   place_next zero i h e = absurd (omega arith)
   place_next (suc n) i {v} {next} h e = rw (sub-one (suc n), at_more n bytes i e) (one_placed v (numbers_at n bytes next))
 
-  pub place_stop : (n i : ℕ) {j : ℕ} → 0 < n → number bytes i ≡ Wrong j → place_in (length bytes) (numbers_at n bytes i) ≡ j
+  pub place_stop : (n i : ℕ) {f : Fault} → 0 < n → number bytes i ≡ Err f → place_in (length bytes) (numbers_at n bytes i) ≡ f.place
   unfolding place_in
   place_stop zero i h e = absurd (omega arith)
   place_stop (suc n) i h e = rw (at_wrong n bytes i e)
 
   -- C, N, and the nodes
-  pub slots_wrong : {j : ℕ} → number bytes 0 ≡ Wrong j → bad_place bytes ≡ j
+  pub slots_wrong : {f : Fault} → number bytes 0 ≡ Err f → bad_place bytes ≡ f.place
   unfolding bad_place place_in numbers_in count_numbers
   slots_wrong e = rw e
 
-  module _ {c i : ℕ} (e : number bytes 0 ≡ Read c i) where
-    pub count_wrong : {j : ℕ} → number bytes i ≡ Wrong j → bad_place bytes ≡ j
+  module _ {c i : ℕ} (e : number bytes 0 ≡ Ok (c, i)) where
+    pub count_wrong : {f : Fault} → number bytes i ≡ Err f → bad_place bytes ≡ f.place
     unfolding bad_place place_in numbers_in count_numbers node_numbers
     count_wrong f = rw (e, f)
 
-    pub nodes_wrong : {n at count : ℕ} → number bytes i ≡ Read n at → count ≡ 2 * n → bad_place bytes ≡ place_in (length bytes) (numbers_at count bytes at)
+    pub nodes_wrong : {n at count : ℕ} → number bytes i ≡ Ok (n, at) → count ≡ 2 * n → bad_place bytes ≡ place_in (length bytes) (numbers_at count bytes at)
     unfolding bad_place numbers_in count_numbers node_numbers
     nodes_wrong {n} {at} f twice = rw (e, f, twice) (one_placed c (before n (numbers_at (2 * n) bytes at)) ∙ one_placed n (numbers_at (2 * n) bytes at))
 

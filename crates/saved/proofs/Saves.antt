@@ -15,11 +15,10 @@ use borrow.Author.Tests.{eqb-true, eq-eqb}
 use Rattle.tree.specs.Codes.{most_slots}
 use Rattle.tree.specs.State.{State, Top, empty, full, nodes, GoodTop, Sound}
 use Rattle.tree.proofs.SoundStates.{sound_total}
-use Rattle.encoding.specs.declared.Number.{Number}
-use Rattle.encoding.specs.declared.Number.TheVariants.{Read, Wrong}
-use Rattle.encoding.specs.Numbers.{Bytes, number}
+use Rattle.encoding.specs.Numbers.{Reading, Bytes, number}
+use Rattle.std.specs.Prelude.{Ok, Err}
 use Rattle.saved.specs.Saved.{top_numbers, saved_numbers, bytes_of_all, saved_bytes, renumbered_top, with_rest, renumbered_state, AlikeTop}
-use Rattle.saved.specs.Loaded.{Numbers, numbers, misread, before, numbers_at, node_numbers, count_numbers, numbers_in, is_count, state_from, loaded_numbers, loaded_up_to, loaded}
+use Rattle.saved.specs.Loaded.{before, numbers_at, node_numbers, count_numbers, numbers_in, is_count, state_from, loaded_numbers, loaded_up_to, loaded}
 use Rattle.saved.specs.There.{SavedAt}
 use Rattle.saved.specs.Misread.{Reads, reads_none, reads_more, asked, Unwritten}
 use Rattle.saved.proofs.ReadLists.{reads_at, AtSays, at_says, reads_bytes, reads_there}
@@ -35,32 +34,32 @@ top_count empty = refl
 top_count (full t) = numbers_length 1 t
 
 -- C and N once read, the reader reads 2N + 2 numbers in all.
-pub in_reads : {bytes vs : List ℕ} {c n j : ℕ} → Reads bytes 0 (c ∷ (n ∷ vs)) j → length vs ≡ 2 * n → numbers_in bytes ≡ numbers (c ∷ (n ∷ vs)) j
+pub in_reads : {bytes vs : List ℕ} {c n j : ℕ} → Reads bytes 0 (c ∷ (n ∷ vs)) j → length vs ≡ 2 * n → numbers_in bytes ≡ Ok (c ∷ (n ∷ vs), j)
 unfolding numbers_in count_numbers node_numbers before
 in_reads {bytes} (reads_more e (reads_more f r)) l = rw (e, f, ← l, reads_at r)
 
 -- What the reader reads are numbers that stand in the bytes, as many as are asked for; or fewer, and then one that goes wrong.
-abbrev pub InSays : List ℕ → Numbers → Type 0
-InSays bytes (misread j) = (vs : List ℕ) × (k : ℕ) × Reads bytes 0 vs k × (length vs < asked vs) × (number bytes k ≡ Wrong j)
-InSays bytes (numbers vs j) = Reads bytes 0 vs j × (length vs ≡ asked vs)
+abbrev pub InSays : List ℕ → Reading (List ℕ) → Type 0
+InSays bytes (Err f) = (vs : List ℕ) × (k : ℕ) × Reads bytes 0 vs k × (length vs < asked vs) × (number bytes k ≡ Err f)
+InSays bytes (Ok (vs, j)) = Reads bytes 0 vs j × (length vs ≡ asked vs)
 
 pub numbers_in_lem : (bytes : List ℕ) → InSays bytes (numbers_in bytes)
 unfolding numbers_in count_numbers node_numbers before
 numbers_in_lem bytes = first (number bytes 0) refl
   where
-    third : (c n i j : ℕ) → number bytes 0 ≡ Read c i → number bytes i ≡ Read n j → (x : Numbers) → AtSays bytes (2 * n) j x → InSays bytes (before c (before n x))
-    third c n i j e f (misread k) h = (c ∷ (n ∷ h.0), h.1, reads_more e (reads_more f h.2), omega (arith, h.3), h.4)
-    third c n i j e f (numbers vs k) h = (reads_more e (reads_more f h.0), omega (arith, h.1))
+    third : (c n i j : ℕ) → number bytes 0 ≡ Ok (c, i) → number bytes i ≡ Ok (n, j) → (x : Reading (List ℕ)) → AtSays bytes (2 * n) j x → InSays bytes (before c (before n x))
+    third c n i j e f (Err g) h = (c ∷ (n ∷ h.0), h.1, reads_more e (reads_more f h.2), omega (arith, h.3), h.4)
+    third c n i j e f (Ok (vs, k)) h = (reads_more e (reads_more f h.0), omega (arith, h.1))
 
-    second : (c i : ℕ) → number bytes 0 ≡ Read c i → (x : Number) → number bytes i ≡ x → InSays bytes (numbers_in bytes)
-    second c i e (Wrong j) f = rw (e, f, numbers_in) (c ∷ [], i, reads_more e reads_none, omega arith, f)
-    second c i e (Read n j) f = rw (e, f, numbers_in) (third c n i j e f (numbers_at (2 * n) bytes j) (at_says bytes (2 * n) j))
+    second : (c i : ℕ) → number bytes 0 ≡ Ok (c, i) → (x : Reading ℕ) → number bytes i ≡ x → InSays bytes (numbers_in bytes)
+    second c i e (Err g) f = rw (e, f, numbers_in) (c ∷ [], i, reads_more e reads_none, omega arith, f)
+    second c i e (Ok (n, j)) f = rw (e, f, numbers_in) (third c n i j e f (numbers_at (2 * n) bytes j) (at_says bytes (2 * n) j))
 
-    first : (x : Number) → number bytes 0 ≡ x → InSays bytes (numbers_in bytes)
-    first (Wrong j) e = rw (e, numbers_in) ([], 0, reads_none, omega arith, e)
-    first (Read c i) e = second c i e (number bytes i) refl
+    first : (x : Reading ℕ) → number bytes 0 ≡ x → InSays bytes (numbers_in bytes)
+    first (Err f) e = rw (e, numbers_in) ([], 0, reads_none, omega arith, e)
+    first (Ok (c, i)) e = second c i e (number bytes i) refl
 
-loaded_as : (bytes vs : List ℕ) → numbers_in bytes ≡ numbers vs (length bytes) → loaded bytes ≡ state_from most_slots vs
+loaded_as : (bytes vs : List ℕ) → numbers_in bytes ≡ Ok (vs, length bytes) → loaded bytes ≡ state_from most_slots vs
 unfolding loaded_up_to loaded_numbers
 loaded_as bytes vs e = rw (e, eq-eqb (length bytes) (length bytes) refl, loaded_numbers)
 
@@ -106,12 +105,12 @@ unfolding saved_bytes
 state_loaded bytes vs e none h = tt
 state_loaded bytes vs e (some T) h = record { sound = h.sound; written = rw h.written e; numbered = h.numbered }
 
-numbers_loaded : (bytes : List ℕ) → Bytes bytes → (x : Numbers) → InSays bytes x → LoadedSays bytes (loaded_numbers most_slots (length bytes) x)
+numbers_loaded : (bytes : List ℕ) → Bytes bytes → (x : Reading (List ℕ)) → InSays bytes x → LoadedSays bytes (loaded_numbers most_slots (length bytes) x)
 unfolding loaded_numbers
-numbers_loaded bytes b (misread j) h = tt
-numbers_loaded bytes b (numbers vs next) h = go (eqb next (length bytes)) refl
+numbers_loaded bytes b (Err f) h = tt
+numbers_loaded bytes b (Ok (vs, next)) h = go (eqb next (length bytes)) refl
   where
-    go : (x : Bool) → eqb next (length bytes) ≡ x → LoadedSays bytes (loaded_numbers most_slots (length bytes) (numbers vs next))
+    go : (x : Bool) → eqb next (length bytes) ≡ x → LoadedSays bytes (loaded_numbers most_slots (length bytes) (Ok (vs, next)))
     go false e = rw (e, loaded_numbers) tt
     go true e =
         let all : bytes_of_all vs ≡ bytes = sym (rw (eqb-true next (length bytes) e, drop-length bytes, append-nil) at (reads_there bytes b h.0)) in

@@ -7,20 +7,13 @@ use Prim.Native.Nat.{ℕ, ◌/◌, ◌%◌}
 use native.Mathlib.Omega.{arith}
 use Rattle.tree.specs.Tree.{Tree, leaf, node}
 use Rattle.tree.specs.State.{Top, empty, full}
-use Rattle.encoding.specs.declared.Number.{Number}
-use Rattle.encoding.specs.declared.Number.TheVariants.{Read, Wrong}
 use Rattle.encoding.specs.Numbers.{number}
+use Rattle.std.specs.Prelude.{Ok}
+use Rattle.encoding.proofs.Readings.{one_read}
 use Rattle.saved.specs.Saved.{tree_numbers, top_numbers, Alike, alike_leaf, alike_node}
 use Rattle.saved.specs.There.{TreeAt, leaf_at_case, node_at, TopAt, none_at, tree_at}
 use Rattle.saved.specs.Misread.{Reads, reads_none, reads_more}
 use Rattle.saved.proofs.ReadLists.{reads_append, reads_parts}
-
--- a place reads as one number at most
-pub one_read : {x : Number} {v u m n : ℕ} → x ≡ Read v m → x ≡ Read u n → (v ≡ u) × (m ≡ n)
-one_read e f = (cc, cc)
-
-pub not_wrong : {x : Number} {v m j : ℕ} → x ≡ Read v m → x ≡ Wrong j → ⊥
-not_wrong e f = let z : ◌≡◌ {A = ℕ} 0 1 = cc in omega arith
 
 module _ {bytes : List ℕ} where
   pub tree_reads : {i j w : ℕ} {t : Tree} → TreeAt bytes i w t j → Reads bytes i (tree_numbers w t) j
@@ -62,7 +55,7 @@ pub record NodeAt (bytes : List ℕ) (k j w n : ℕ) (t : Tree) : Type 0 where
   pub right_there : TreeAt bytes m wr r n
   pub tree_is : t ≡ node v k wl l wr r
 
-module _ {bytes : List ℕ} {i a m k j : ℕ} (first : number bytes i ≡ Read a m) (second : number bytes m ≡ Read k j) where
+module _ {bytes : List ℕ} {i a m k j : ℕ} (first : number bytes i ≡ Ok (a, m)) (second : number bytes m ≡ Ok (k, j)) where
   pub first_weight : {w n : ℕ} {t : Tree} → TreeAt bytes i w t n → w ≡ a / 2
   first_weight {w} (leaf_at_case e f) = omega (arith, (one_read e first).0)
   first_weight {w} (node_at e f x y) = omega (arith, (one_read e first).0)

@@ -1,39 +1,33 @@
 -- 02 (i), the reader (RULES 16): it reads all numbers, grows a tree of them, and judges it. Executable; that it takes exactly what a sound
 -- State is written as, 02's own words, is `accepted_exactly`. Its tests are those of the pool's rules: it serves RULES 1, 2.
-use Rattle.std.specs.Prelude.{Bool, true, false, ◌&&◌, List, [], ◌∷◌, eqb, leb, ltb, length, ℕ, zero, suc, ◌+◌, ◌*◌, ◌/◌, ◌%◌}
+use Rattle.std.specs.Prelude.{Bool, true, false, ◌&&◌, List, [], ◌∷◌, eqb, leb, ltb, length, ℕ, zero, suc, ◌+◌, ◌*◌, ◌/◌, ◌%◌, Ok, Err}
 use Rattle.std.proofs.Math.Option.{Option, none, some}
 use Rattle.tree.specs.Codes.{most_slots, most_level}
 use Rattle.tree.specs.Tree.{Tree, leaf, node, size, level}
 use Rattle.tree.specs.State.{State, Top, empty, full, key_end}
-use Rattle.encoding.specs.declared.Number.{Number}
-use Rattle.encoding.specs.declared.Number.TheVariants.{Read, Wrong}
-use Rattle.encoding.specs.Numbers.{number}
+use Rattle.encoding.specs.Numbers.{Reading, number}
 use Rattle.saved.specs.Saved.{with_rest}
 
--- Numbers read from bytes and the place after them; or the byte at which the first bad one goes wrong.
-pub data Numbers : Type 0 where
-  numbers : List ℕ → ℕ → Numbers
-  misread : ℕ → Numbers
+-- one number more before those that are read
+unfoldable pub before : ℕ → Reading (List ℕ) → Reading (List ℕ)
+before v (Ok (vs, next)) = Ok (v ∷ vs, next)
+before v (Err f) = Err f
 
-unfoldable pub before : ℕ → Numbers → Numbers
-before v (numbers vs next) = numbers (v ∷ vs) next
-before v (misread j) = misread j
-
--- n numbers from place i on
-unfoldable pub numbers_at : ℕ → List ℕ → ℕ → Numbers
-numbers_at zero bytes i = numbers [] i
-numbers_at (suc n) bytes i = elim (number bytes i) [ Read v next ↦ before v (numbers_at n bytes next) | Wrong j ↦ misread j ]
+-- n numbers from place i on, and the place after them; or where the first bad one goes wrong
+unfoldable pub numbers_at : ℕ → List ℕ → ℕ → Reading (List ℕ)
+numbers_at zero bytes i = Ok ([], i)
+numbers_at (suc n) bytes i = elim (number bytes i) [ Ok (v, next) ↦ before v (numbers_at n bytes next) | Err f ↦ Err f ]
 
 -- 02 (ii) (RULES 16.1): "The saved-form reader reads C, N and then two numbers for each of N nodes", before it judges any of them.
-unfoldable pub node_numbers : List ℕ → ℕ → Number → Numbers
-node_numbers bytes c (Read n next) = before c (before n (numbers_at (2 * n) bytes next))
-node_numbers bytes c (Wrong j) = misread j
+unfoldable pub node_numbers : List ℕ → ℕ → Reading ℕ → Reading (List ℕ)
+node_numbers bytes c (Ok (n, next)) = before c (before n (numbers_at (2 * n) bytes next))
+node_numbers bytes c (Err f) = Err f
 
-unfoldable pub count_numbers : List ℕ → Number → Numbers
-count_numbers bytes (Read c next) = node_numbers bytes c (number bytes next)
-count_numbers bytes (Wrong j) = misread j
+unfoldable pub count_numbers : List ℕ → Reading ℕ → Reading (List ℕ)
+count_numbers bytes (Ok (c, next)) = node_numbers bytes c (number bytes next)
+count_numbers bytes (Err f) = Err f
 
-unfoldable pub numbers_in : List ℕ → Numbers
+unfoldable pub numbers_in : List ℕ → Reading (List ℕ)
 numbers_in bytes = count_numbers bytes (number bytes 0)
 
 -- A tree grown from numbers: the weight of its edge, the tree, and the numbers after it.
@@ -106,9 +100,9 @@ state_from most (c ∷ []) = none
 state_from most (c ∷ (n ∷ vs)) = elim (is_count most c n) [ true ↦ with_top c (top_from n vs) | false ↦ none ]
 
 -- RULES 16.5: what the reader makes of bytes, a State; or nothing, of "bytes that no writer produces". No byte is left over.
-unfoldable pub loaded_numbers : (most end : ℕ) → Numbers → Option State
-loaded_numbers most end (misread j) = none
-loaded_numbers most end (numbers vs next) = elim (eqb next end) [ true ↦ state_from most vs | false ↦ none ]
+unfoldable pub loaded_numbers : (most end : ℕ) → Reading (List ℕ) → Option State
+loaded_numbers most end (Err f) = none
+loaded_numbers most end (Ok (vs, next)) = elim (eqb next end) [ true ↦ state_from most vs | false ↦ none ]
 
 unfoldable pub loaded_up_to : (most : ℕ) → List ℕ → Option State
 loaded_up_to most bytes = loaded_numbers most (length bytes) (numbers_in bytes)
@@ -118,9 +112,9 @@ loaded = loaded_up_to most_slots
 
 -- 02 (ii) (RULES 16.8): "its 13 gives the place of the first bad number, and the count of saved bytes where every number reads but no writer
 -- produces the whole".
-unfoldable pub place_in : ℕ → Numbers → ℕ
-place_in end (misread j) = j
-place_in end (numbers vs next) = end
+unfoldable pub place_in : ℕ → Reading (List ℕ) → ℕ
+place_in end (Err f) = f.place
+place_in end (Ok (vs, next)) = end
 
 unfoldable pub bad_place : List ℕ → ℕ
 bad_place bytes = place_in (length bytes) (numbers_in bytes)

@@ -1,8 +1,7 @@
 -- 02 (ii): at which byte saved bytes go wrong (RULES 16.8), said of the bytes, apart from the reader. (That it refuses exactly these, and gives that
 -- byte, is `place_exactly`.)
-use Rattle.std.specs.Prelude.{◌≡◌, List, [], ◌∷◌, length, ℕ, ◌+◌, ◌*◌, ◌<◌}
+use Rattle.std.specs.Prelude.{◌≡◌, List, [], ◌∷◌, length, ℕ, ◌+◌, ◌*◌, ◌<◌, Ok}
 use Rattle.tree.specs.State.{State, Sound}
-use Rattle.encoding.specs.declared.Number.TheVariants.{Read}
 use Rattle.encoding.specs.Numbers.{number}
 use Rattle.numbers.specs.Faults.{BadNumber}
 use Rattle.saved.specs.Saved.{saved_bytes}
@@ -10,7 +9,7 @@ use Rattle.saved.specs.Saved.{saved_bytes}
 -- the numbers vs stand from place i up to place j
 pub data Reads (bytes : List ℕ) : ℕ → List ℕ → ℕ → Type 0 where
   reads_none : {i : ℕ} → Reads bytes i [] i
-  reads_more : {i m j v : ℕ} {vs : List ℕ} → number bytes i ≡ Read v m → Reads bytes m vs j → Reads bytes i (v ∷ vs) j
+  reads_more : {i m j v : ℕ} {vs : List ℕ} → number bytes i ≡ Ok (v, m) → Reads bytes m vs j → Reads bytes i (v ∷ vs) j
 
 -- "C, N and then two numbers for each of N nodes": how many numbers there must be, as far as those read tell
 abbrev pub asked : List ℕ → ℕ

@@ -11,7 +11,7 @@ use Rattle.tree.specs.State.{State, key_end, Sound}
 use Rattle.tree.proofs.Updated.{insert_sound, delete_sound}
 use Rattle.tree.proofs.StepState.{step_sound_state}
 use Rattle.tree.proofs.Settling.{settle_sound_state}
-use Rattle.format.specs.declared.Audited.{Audited}
+use Rattle.format.specs.declared.Unsound.{Unsound}
 use Rattle.format.specs.Words.{header_of, length_good}
 use Rattle.format.specs.Shows.{PoolShows}
 use Rattle.format.specs.Audit.{state_of, audit_code}
@@ -58,7 +58,7 @@ pub audit_says : (p : List ℕ) → Words32 p → Audits p (audit_answer p)
 unfolding audit_answer
 audit_says p words = go (audited_case p)
   where
-    go : {a : Audited} → Case p a → Audits p (audited_answer a)
+    go : {a : Result Header Unsound} → Case p a → Audits p (audited_answer a)
     go (length-case l) = wrong_length l
     go (broken-case l r) = rules_broken l (λ g. absurd (false≢true (sym r ∙ (show_rules (shown g).sound (shown g).shows).1)))
     go (Kept-case l r) = let s = rules_show (header_of p) p l r words in audit_passed l (passing s.0 s.1)

@@ -6,8 +6,8 @@ use Rattle.tree.specs.declared.Answer.{Answer}
 use Rattle.tree.specs.declared.Answer.TheVariants.{Done, Refused}
 use Rattle.tree.specs.declared.Refusal.TheVariants.{PoolLength, RulesBroken}
 use Rattle.tree.specs.State.{State, keys_of, is_in, Sound, slots_needed}
-use Rattle.format.specs.declared.Audited.{Audited}
-use Rattle.format.specs.declared.Audited.TheVariants.{Length, Broken, Passed}
+use Rattle.format.specs.declared.Unsound.{Unsound}
+use Rattle.format.specs.declared.Unsound.TheVariants.{Length, Broken}
 use Rattle.format.specs.Shows.{PoolShows}
 use Rattle.format.specs.Audit.{state_of, audited}
 
@@ -41,10 +41,10 @@ unfoldable pub needed : List ℕ → ℕ
 needed p = slots_needed (state_of p).top
 
 -- The audit (RULES 2.8) as an answer (RULES 9.1 and 9.2): 1, 2, or nothing to say.
-abbrev pub audited_answer : Audited → Answer
-audited_answer Length = Refused PoolLength
-audited_answer Broken = Refused RulesBroken
-audited_answer (Passed h) = Done 0
+abbrev pub audited_answer : Result Header Unsound → Answer
+audited_answer (Err Length) = Refused PoolLength
+audited_answer (Err Broken) = Refused RulesBroken
+audited_answer (Ok h) = Done 0
 
 unfoldable pub audit_answer : List ℕ → Answer
 audit_answer p = audited_answer (audited p)

@@ -8,6 +8,6 @@ pub use Rattle.spans.specs.Spanning.{next_answer, count_answer, delete_span_answ
 -- the audit as an answer (RULES 2.8)
 pub use Rattle.set.specs.Inside.{audit_answer}
 -- what a call answers and leaves, codes and numbers (RULES 9), the pool's length (RULES 1.1) and C
-pub use Rattle.tree.specs.Codes.{code, code_of, number_of}
+pub use Rattle.tree.specs.Codes.{code, code_of, number_of, answer_of}
 pub use Rattle.format.specs.Performing.{Call, gives, refuses}
 pub use Rattle.format.specs.Words.{length_good, slots_in}

@@ -3,23 +3,19 @@
 #![tactic(auto)]
 
 ghost use Rattle.std.specs.Prelude.{◌≡◌};
+ghost use Rattle.tree.specs.Codes.{answer_of};
 ghost use Rattle.set.specs.Inside.{audit_answer};
 
-use format::Audited;
 use pool::examine;
 pub use spans::{count, delete_span, next_key};
-use tree::{Answer, Refusal};
+use tree::Refusal;
 pub use updates::{delete, insert, search};
 
 // The audit, as an answer: refused with 1 or 2, or done.
 #[tactic(auto, unfolding(crate::specs::Inside::audit_answer))]
-pub fn audit_answer(pool: &[u32]) -> Answer
-    ensures { result ≡ audit_answer pool.now }
+pub fn audit_answer(pool: &[u32]) -> Result<u32, Refusal>
+    ensures { answer_of result ≡ audit_answer pool.now }
 {
-    let found = examine(pool);
-    match found {
-        Audited::Length => Answer::Refused(Refusal::PoolLength),
-        Audited::Broken => Answer::Refused(Refusal::RulesBroken),
-        Audited::Passed(_) => Answer::Done(0),
-    }
+    examine(pool)?;
+    Ok(0)
 }

@@ -23,7 +23,7 @@ use Rattle.updates.specs.Updating.{delete_under}
 use Rattle.updates.proofs.DeleteShows.{delete_shows, delete_entry}
 use Rattle.spans.specs.Spanning.{not_above, next_to, delete_from, delete_span_under, delete_span_answer, delete_span_words, deleted_each}
 use Rattle.spans.proofs.NextShows.{next_shows}
-use Rattle.spans.proofs.SpanTurns.{refused, not_above_lem, above, delete_none}
+use Rattle.spans.proofs.SpanTurns.{not_above_lem, above, delete_none}
 
 -- What is left to do from x on, where so many are gone.
 abbrev rest : (gone x b : ℕ) → State → Outcome
@@ -69,7 +69,7 @@ Left n x b gone p h S = Does (delete_from n x b gone p h) (rest gone x b S)
 
 module _ (x b gone : ℕ) {h : Header} {p : List ℕ} {S : State} (shows : Shows h p S) where
   ends_shown : (n : ℕ) → next_to p h.root x b ≡ Refused KeyAbsent → keys_from x b S ≡ [] → Left n x b gone p h S
-  ends_shown n e z = rw (delete_none n x b gone p h e refused, rest_none gone x b S z) (record { answers = refl; shows = shows })
+  ends_shown n e z = rw (delete_none n x b gone p h _ e, rest_none gone x b S z) (record { answers = refl; shows = shows })
 
   last_turn : length (keys_from x b S) ≤ 0 → NextIn x b p h S → Left 0 x b gone p h S
   last_turn few (ended e z) = ends_shown 0 e z

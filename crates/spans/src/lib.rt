@@ -1,20 +1,22 @@
 // 02 (vii): the smallest key at or above a given one, the number of keys of a span, and deleting them, on a pool's words under a root or a header
 // that the caller has; and the same for a pool whose header lies in its first words. On any words they end and are equations; what they mean
 // on words that show a sound State is said by `next_shows`, `count_shows` and `span_shows`.
+// A span is given by its ends a and b, as a command and the C interface give them: two numbers, and no type of its own.
 #![tactic(auto)]
 
-ghost use Rattle.std.specs.Prelude.{◌≡◌, suc};
+ghost use Rattle.std.specs.Prelude.{◌≡◌};
+ghost use Rattle.tree.specs.declared.Answer.TheVariants.{Done};
+ghost use Rattle.tree.specs.Codes.{answer_of};
 ghost use Rattle.tree.specs.Tree.{one};
 ghost use Rattle.tree.specs.Spans.{within};
 ghost use Rattle.spans.specs.Spanning.{turn, turns_to, next_beside, at_or_above, next_answer, visited, tally_from, count_under, next_to, delete_span_under, count_answer, delete_span_answer, delete_span_words};
 
-use format::{Header, Performed, Slot};
-use slots::{get_header, get_slot, last_slot, one_less, put_header, slots_in};
-use std::num::wrapping_add_u32;
-use tree::{Answer, Refusal};
+use format::{Header, Slot};
+use slots::{get_header, get_slot, last_slot, put_header, slots_in};
+use tree::Refusal;
 use updates::{delete_under, descend};
 
-// Where a search is, and the right child at its last turn to the left, 0 before the first.
+// Where a search is, and the right child at its last turn to the left, 0 before the first. 01: "0 is no slot", so no Option is needed.
 #[derive(Clone, Copy)]
 struct Turned {
     slot: u32,
@@ -39,63 +41,60 @@ fn turn(c: Slot, beside: u32, key: u32) -> Turned
     }
 }
 
-// Where the search for key from slot root on ends. It goes down at most C slots, so it ends on any words.
+// Where the search for key from slot root on ends. It goes down at most C slots, so it ends on any words. The loop is that of `descend` of crate
+// updates, which remembers the parent: one loop for both would carry the parent here and the turn there, and both would have to be known there.
 #[tactic(auto, using(crate::proofs::Ways::turns_end, crate::proofs::Ways::turns_on), unfolding(crate::specs::Spanning::turns_to, crate::specs::Spanning::turn, crate::specs::Spanning::turns))]
 fn turns(pool: &[u32], root: u32, key: u32) -> Turned
     ensures { result ≡ turns_to pool.now root key }
 {
-    let mut s = root;
-    let mut beside: u32 = 0;
-    let mut left = slots_in(pool);
-    while 0 < left {
-        let c = get_slot(pool, s);
+    let mut t = Turned {
+        slot: root,
+        beside: 0,
+    };
+    for _ in 0..slots_in(pool) {
+        let c = get_slot(pool, t.slot);
         if c.left == 0 {
-            return Turned { slot: s, beside };
+            break;
         }
-        let t = turn(c, beside, key);
-        s = t.slot;
-        beside = t.beside;
-        left -= 1;
+        t = turn(c, t.beside, key);
     }
-    Turned { slot: s, beside }
+    t
 }
 
 // The key where the search for key ends from slot s on: in a sound pool all keys there are above key, and it is the smallest.
 #[tactic(auto, unfolding(crate::specs::Spanning::next_beside))]
-fn next_beside(pool: &[u32], s: u32, key: u32) -> Answer
-    ensures { result ≡ next_beside pool.now key s }
+fn next_beside(pool: &[u32], s: u32, key: u32) -> Result<u32, Refusal>
+    ensures { answer_of result ≡ next_beside pool.now key s }
 {
     if s == 0 {
-        return Answer::Refused(Refusal::KeyAbsent);
+        return Err(Refusal::KeyAbsent);
     }
     let w = descend(pool, s, key);
-    let end = get_slot(pool, w.leaf);
-    Answer::Done(end.key)
+    Ok(get_slot(pool, w.leaf).key)
 }
 
 // The smallest key at or above key, in the tree under the root; 6 if there is none. 01: "root slot (0 if empty)". It goes down one way, and where
 // that ends below key a second one, each of at most C slots.
 #[tactic(auto, unfolding(crate::specs::Spanning::at_or_above, crate::specs::Spanning::next_at))]
-pub fn at_or_above(pool: &[u32], root: u32, key: u32) -> Answer
-    ensures answer { result ≡ at_or_above pool.now root key }
+pub fn at_or_above(pool: &[u32], root: u32, key: u32) -> Result<u32, Refusal>
+    ensures answer { answer_of result ≡ at_or_above pool.now root key }
 {
     if root == 0 {
-        return Answer::Refused(Refusal::KeyAbsent);
+        return Err(Refusal::KeyAbsent);
     }
     let t = turns(pool, root, key);
     let c = get_slot(pool, t.slot);
     if c.key < key {
         return next_beside(pool, t.beside, key);
     }
-    Answer::Done(c.key)
+    Ok(c.key)
 }
 
 #[tactic(auto, unfolding(crate::specs::Spanning::next_answer))]
-pub fn next_key(pool: &[u32], key: u32) -> Answer
-    ensures answer { result ≡ next_answer pool.now key }
+pub fn next_key(pool: &[u32], key: u32) -> Result<u32, Refusal>
+    ensures answer { answer_of result ≡ next_answer pool.now key }
 {
-    let h = get_header(pool);
-    at_or_above(pool, h.root, key)
+    at_or_above(pool, get_header(pool).root, key)
 }
 
 // What a walk over a subtree finds: how many keys of the span, and how many slots it may still visit.
@@ -110,13 +109,7 @@ struct Tally {
 fn one_within(a: u32, b: u32, k: u32) -> u32
     ensures { result ≡ one (within a b k) }
 {
-    if k < a {
-        return 0;
-    }
-    if b < k {
-        return 0;
-    }
-    1
+    u32::from((a..=b).contains(&k))
 }
 
 // A slot was visited: so many keys more, one slot fewer to go.
@@ -125,8 +118,8 @@ fn visited(t: Tally, keys: u32) -> Tally
     ensures { result ≡ visited t keys }
 {
     Tally {
-        keys: wrapping_add_u32(t.keys, keys),
-        left: one_less(t.left),
+        keys: t.keys.wrapping_add(keys),
+        left: t.left.saturating_sub(1),
     }
 }
 
@@ -137,10 +130,7 @@ fn visited(t: Tally, keys: u32) -> Tally
 fn tally_from(pool: &[u32], a: u32, b: u32, s: u32, deep: u32, t: Tally) -> Tally
     ensures { result ≡ tally_from deep pool.now a b s t }
 {
-    if deep < 1 {
-        return t;
-    }
-    if t.left < 1 {
+    if deep == 0 || t.left == 0 {
         return t;
     }
     let c = get_slot(pool, s);
@@ -163,90 +153,69 @@ fn tally_from(pool: &[u32], a: u32, b: u32, s: u32, deep: u32, t: Tally) -> Tall
 
 // How many keys from a to b stand in the tree under the root.
 #[tactic(auto, unfolding(crate::specs::Spanning::count_under))]
-pub fn count_under(pool: &[u32], root: u32, a: u32, b: u32) -> Answer
-    ensures answer { result ≡ count_under pool.now root a b }
+pub fn count_under(pool: &[u32], root: u32, a: u32, b: u32) -> u32
+    ensures answer { Done result ≡ count_under pool.now root a b }
 {
     if root == 0 {
-        return Answer::Done(0);
+        return 0;
     }
     let slots = last_slot(pool);
     let none = Tally {
         keys: 0,
         left: slots,
     };
-    let found = tally_from(pool, a, b, root, slots, none);
-    Answer::Done(found.keys)
+    tally_from(pool, a, b, root, slots, none).keys
 }
 
 #[tactic(auto, unfolding(crate::specs::Spanning::count_answer))]
-pub fn count(pool: &[u32], a: u32, b: u32) -> Answer
-    ensures answer { result ≡ count_answer pool.now a b }
+pub fn count(pool: &[u32], a: u32, b: u32) -> u32
+    ensures answer { Done result ≡ count_answer pool.now a b }
 {
-    let h = get_header(pool);
-    count_under(pool, h.root, a, b)
+    count_under(pool, get_header(pool).root, a, b)
 }
 
 // The smallest key from `next` to b, in the tree under the root; 6 if there is none. `next` may be one more than the last 32-bit number.
-#[tactic(auto, using(crate::proofs::SpanTurns::none_at, crate::proofs::SpanTurns::not_above_lem, crate::proofs::SpanTurns::above), unfolding(crate::specs::Spanning::next_to))]
-fn next_to(pool: &[u32], root: u32, next: u64, b: u32) -> Answer
-    ensures { result ≡ next_to pool.now root next b }
+#[tactic(auto, using(crate::proofs::SpanTurns::not_above_lem, crate::proofs::SpanTurns::above, crate::proofs::SpanTurns::none_at), unfolding(crate::specs::Spanning::next_to))]
+fn next_to(pool: &[u32], root: u32, next: u64, b: u32) -> Result<u32, Refusal>
+    ensures { answer_of result ≡ next_to pool.now root next b }
 {
     if (b as u64) < next {
-        return Answer::Refused(Refusal::KeyAbsent);
+        return Err(Refusal::KeyAbsent);
     }
-    let Answer::Done(key) = at_or_above(pool, root, next as u32) else {
-        return Answer::Refused(Refusal::KeyAbsent);
-    };
+    let key = at_or_above(pool, root, next as u32)?;
     if b < key {
-        return Answer::Refused(Refusal::KeyAbsent);
+        return Err(Refusal::KeyAbsent);
     }
-    Answer::Done(key)
-}
-
-// The number after a key, one more than the last 32-bit number after the last key.
-fn after(key: u32) -> u64
-    ensures { result ≡ suc key }
-{
-    key as u64 + 1
+    Ok(key)
 }
 
 // 02 (vii): "delete all keys from a to b, smallest first, answering how many went." Each is found as `at_or_above` finds it, and deleted by a way of
-// its own.
+// its own; a key that was just found is there, so its delete is not refused. No span has more keys than the pool has slots.
 #[tactic(auto, using(crate::proofs::SpanTurns::delete_ends, crate::proofs::SpanTurns::delete_none, crate::proofs::SpanTurns::delete_next), unfolding(crate::specs::Spanning::delete_span_under))]
-pub fn delete_span_under(pool: &mut [u32], h: Header, a: u32, b: u32) -> Performed
-    ensures result { result ≡ (delete_span_under pool.old h a b).result }
-    ensures pool { pool.new ≡ (delete_span_under pool.old h a b).words }
+pub fn delete_span_under(pool: &mut [u32], h: &mut Header, a: u32, b: u32) -> u32
+    ensures answer { Done result ≡ (delete_span_under pool.old h.old a b).result.answer }
+    ensures header { h.new ≡ (delete_span_under pool.old h.old a b).result.header }
+    ensures pool { pool.new ≡ (delete_span_under pool.old h.old a b).words }
 {
-    let mut header = h;
+    let most = last_slot(pool);
     let mut next = a as u64;
-    let mut gone: u32 = 0;
-    let mut left = last_slot(pool);
-    while 0 < left {
-        let Answer::Done(key) = next_to(pool, header.root, next, b) else {
-            return Performed {
-                answer: Answer::Done(gone),
-                header,
-            };
+    for gone in 0..most {
+        let Ok(key) = next_to(pool, h.root, next, b) else {
+            return gone;
         };
-        let one = delete_under(pool, header, key);
-        header = one.header;
-        next = after(key);
-        gone += 1;
-        left -= 1;
+        let _ = delete_under(pool, h, key);
+        next = key as u64 + 1;
     }
-    Performed {
-        answer: Answer::Done(gone),
-        header,
-    }
+    most
 }
 
 #[tactic(auto, unfolding(crate::specs::Spanning::delete_span_answer, crate::specs::Spanning::delete_span_words))]
-pub fn delete_span(pool: &mut [u32], a: u32, b: u32) -> Answer
-    ensures answer { result ≡ delete_span_answer pool.old a b }
+pub fn delete_span(pool: &mut [u32], a: u32, b: u32) -> u32
+    ensures answer { Done result ≡ delete_span_answer pool.old a b }
     ensures pool { pool.new ≡ delete_span_words pool.old a b }
 {
-    let h = get_header(pool);
-    let d = delete_span_under(pool, h, a, b);
-    put_header(pool, d.header);
-    d.answer
+    let mut h = get_header(pool);
+    let gone = delete_span_under(pool, &mut h, a, b);
+    put_header(pool, h);
+    gone
 }

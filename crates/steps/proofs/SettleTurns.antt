@@ -7,26 +7,24 @@ use native.Mathlib.Numerals.{add-one}
 use native.Mathlib.Omega.{arith}
 use lib.ListN.{length}
 use Prim.Native.Nat.{ℕ, zero, suc, ◌+◌, ◌-◌, ◌<◌}
-use Rattle.tree.specs.declared.Kind.{Kind}
+use Rattle.tree.specs.declared.Answer.{Answer}
 use Rattle.tree.specs.declared.Answer.TheVariants.{Done, Spent}
 use Rattle.tree.specs.Settle.{last_of, settled}
 use Rattle.format.specs.declared.Header.{Header}
-use Rattle.format.specs.Performing.{performed}
-use Rattle.kinds.specs.declared.Around.{Around}
 use Rattle.kinds.specs.Effects.{header_after}
 use Rattle.steps.specs.declared.Lowest.{Lowest}
-use Rattle.steps.specs.declared.Lowest.TheVariants.{At, Nothing}
+use Rattle.std.specs.Prelude.{Option as Found, Some, None}
 use Rattle.steps.specs.Steps.{taken_words, first_allowed, Pool, pool_of, next_pool, pools_after, settle_under}
 
 module _ (P : Pool) where
-  pub next_none : first_allowed P.header P.words ≡ Nothing → next_pool P ≡ none
+  pub next_none : first_allowed P.header P.words ≡ None → next_pool P ≡ none
   unfolding next_pool
   next_none e = rw (e, next_pool)
 
-  next_some : (s : ℕ) (k : Kind) (a : Around) → first_allowed P.header P.words ≡ At s k a
-      → next_pool P ≡ some (pool_of (header_after k s P.header) (taken_words P.header.root P.words s k a))
+  next_some : (x : Lowest) → first_allowed P.header P.words ≡ Some x
+      → next_pool P ≡ some (pool_of (header_after x.kind x.slot P.header) (taken_words P.header.root P.words x.slot x.kind x.around))
   unfolding next_pool
-  next_some s k a e = rw (e, next_pool)
+  next_some x e = rw (e, next_pool)
 
   pub after_none : (b : ℕ) → next_pool P ≡ none → pools_after b P ≡ []
   unfolding pools_after
@@ -54,34 +52,40 @@ module _ (h : Header) (b : ℕ) (p₀ : List ℕ) where
     pub taken : length (pools_after b (pool_of h p₀)) ≡ n + length (pools_after (b - n) P)
     pub last : last_of (pool_of h p₀) (pools_after b (pool_of h p₀)) ≡ last_of P (pools_after (b - n) P)
 
+  -- what settle answers, and the pool that it leaves
+  pub record Ended (a : Answer) (P : Pool) : Type 0 where
+    pub answer : a ≡ (settle_under p₀ h b).result.answer
+    pub header : P.header ≡ (settle_under p₀ h b).result.header
+    pub words : P.words ≡ (settle_under p₀ h b).words
+
   pub begin : Turn 0 (pool_of h p₀)
   begin = let e : b - 0 ≡ b = omega arith in record { taken = rw e (omega arith); last = rw e }
 
   module _ (n : ℕ) (P : Pool) (t : Turn n P) where
-    pub turn : {f : Lowest} → f ≡ first_allowed P.header P.words → (s : ℕ) (k : Kind) (a : Around) → f ≡ At s k a → n < b
-        → {g : Header} {q : List ℕ} → g ≡ header_after k s P.header → q ≡ taken_words P.header.root P.words s k a → Turn (n + 1) (pool_of g q)
-    turn ef s k a e l {g} {q} eg eq =
-        let next : next_pool P ≡ some (pool_of g q) = rw (eg, eq) (next_some P s k a (sym ef ∙ e)) in
+    pub turn : {f : Found Lowest} → f ≡ first_allowed P.header P.words → (x : Lowest) → f ≡ Some x → n < b
+        → {g : Header} {q : List ℕ} → g ≡ header_after x.kind x.slot P.header → q ≡ taken_words P.header.root P.words x.slot x.kind x.around → Turn (n + 1) (pool_of g q)
+    turn ef x e l {g} {q} eg eq =
+        let next : next_pool P ≡ some (pool_of g q) = rw (eg, eq) (next_some P x (sym ef ∙ e)) in
         let r = after_some P (b - n) (b - (n + 1)) (pool_of g q) (omega arith) next in
         record { taken = omega (arith, t.taken, ap length r); last = t.last ∙ last_some P (pool_of g q) r }
 
     -- Where the list ends, its length is n and its last pool P.
     settles : pools_after (b - n) P ≡ [] → (o : Option Pool) → next_pool P ≡ o
-        → (performed (settled n o) P.header ≡ (settle_under p₀ h b).result) × (P.words ≡ (settle_under p₀ h b).words)
+        → Ended (settled n o) P
     unfolding settle_under
     settles g o e =
         let x : length (pools_after b (pool_of h p₀)) ≡ n = omega (arith, t.taken, ap length g) in
         let y : last_of (pool_of h p₀) (pools_after b (pool_of h p₀)) ≡ P = t.last ∙ last_none P g in
-        (rw (x, y, e), ap (λ (Q : Pool). Q.words) (sym y))
+        record { answer = rw (x, y, e); header = ap (λ (Q : Pool). Q.header) (sym y); words = ap (λ (Q : Pool). Q.words) (sym y) }
 
-    pub done : {f : Lowest} → f ≡ first_allowed P.header P.words → f ≡ Nothing
-        → (performed (Done n) P.header ≡ (settle_under p₀ h b).result) × (P.words ≡ (settle_under p₀ h b).words)
+    pub done : {f : Found Lowest} → f ≡ first_allowed P.header P.words → f ≡ None
+        → Ended (Done n) P
     unfolding settled
     done ef e =
         let x = next_none P (sym ef ∙ e) in
         settles (after_none P (b - n) x) none x
 
-    pub spent : {f : Lowest} → f ≡ first_allowed P.header P.words → (s : ℕ) (k : Kind) (a : Around) → f ≡ At s k a → n ≡ b
-        → (performed (Spent n) P.header ≡ (settle_under p₀ h b).result) × (P.words ≡ (settle_under p₀ h b).words)
+    pub spent : {f : Found Lowest} → f ≡ first_allowed P.header P.words → (x : Lowest) → f ≡ Some x → n ≡ b
+        → Ended (Spent n) P
     unfolding settled
-    spent ef s k a e z = settles (after_spent P (b - n) (omega arith)) _ (next_some P s k a (sym ef ∙ e))
+    spent ef x e z = settles (after_spent P (b - n) (omega arith)) _ (next_some P x (sym ef ∙ e))

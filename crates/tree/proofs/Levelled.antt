@@ -4,13 +4,13 @@
 -- the tables `rises_by` and `falls_by` say, kind 1 up by 1, kind 6 down by 1, the others not, and a step elsewhere does not move it
 -- (`level_at_step`). A command that is refused leaves the State (Updated.antt: `insert_kept`, `delete_kept`; StepState.antt: `step_refused`).
 -- Why: Insert.antt, Delete.antt and StepLevels.antt say it of trees; a tree of one node is a leaf. Assumes nothing.
+use mathlib.Core.Option.{some}
 use mathlib.Core.Path.{◌≡◌, refl, sym}
 use mathlib.Core.Logic.{◌≢◌}
 use lib.Dec.{eqb}
 use native.Mathlib.Omega.{arith}
 use Prim.Native.Nat.{ℕ, ◌+◌}
 use Rattle.tree.specs.declared.Kind.{Kind}
-use Rattle.tree.specs.declared.Named.TheVariants.{Known}
 use Rattle.tree.specs.declared.Answer.TheVariants.{Done}
 use Rattle.tree.specs.Codes.{named}
 use Rattle.tree.specs.Tree.{Tree, leaf, node, slot_of, is_leaf, size, one, level}
@@ -74,7 +74,7 @@ module _ (x : ℕ) (S : State) (sound : Sound S) {a : ℕ} where
       go (one_of {t} {c} e i f) d = let three : size t ≡ 3 = rw e at h in one_node_level c.tree (omega (arith, delete_size f))
 
 -- 01: "Kind 1 at the root raises L." Kind 6 there lowers it, kinds 7 and 8 there keep it, and so does every step below the root.
-pub level_at_step : (s n : ℕ) (S : State) → Sound S → {a : ℕ} → (step s n S).answer ≡ Done a → (t : Tree) → S.top ≡ full t → (k : Kind) → named n ≡ Known k
+pub level_at_step : (s n : ℕ) (S : State) → Sound S → {a : ℕ} → (step s n S).answer ≡ Done a → (t : Tree) → S.top ≡ full t → (k : Kind) → named n ≡ some k
     → (s ≡ slot_of t → level_top (step s n S).after.top + falls_by k ≡ level_top S.top + rises_by k)
     × (s ≢ slot_of t → level_top (step s n S).after.top ≡ level_top S.top)
 unfolding level_top

@@ -1,4 +1,5 @@
 pub mod Tables
+pub mod Searches
 pub mod KindNumbers
 pub mod Tests
 pub mod Counts

@@ -4,6 +4,7 @@
 -- (`step_refused`); an accepted one keeps it sound (`sound_kept`, `step_sound_state`) and keeps the keys (`step_keeps_keys`).
 -- Why: an accepted step is a step of the relation (Steps.antt), for in a sound State no slot stands twice; the rest is
 -- StepKeys.antt and StepLevels.antt. Assumes nothing.
+use mathlib.Core.Option.{Option, none, some}
 use mathlib.Core.Path.{◌≡◌, refl, sym, ap, ◌∙◌}
 use mathlib.Core.Logic.{◌↔◌, ◌≢◌}
 use mathlib.Core.Bool.{Bool, true, false, not, ◌||◌, false≢true}
@@ -14,8 +15,6 @@ use Prim.Native.Nat.{ℕ, ◌≤◌}
 use Rattle.tree.specs.declared.Refusal.{Refusal}
 use Rattle.tree.specs.declared.Refusal.TheVariants.{NoInnerNode, NoSuchKind, ConditionFalse, LevelLimit}
 use Rattle.tree.specs.declared.Kind.{Kind}
-use Rattle.tree.specs.declared.Named.{Named}
-use Rattle.tree.specs.declared.Named.TheVariants.{Known, Unknown}
 use Rattle.tree.specs.declared.Answer.TheVariants.{Done, Refused}
 use Rattle.tree.specs.Codes.{kind_number, named}
 use Rattle.tree.specs.Tree.{Tree, is_leaf, count, count_in}
@@ -84,7 +83,7 @@ sound_kept S t h e s k a =
 -- What it takes for a step of number n at slot s of t to be accepted, with m for its answer
 pub record Accepted (s n m : ℕ) (t : Tree) : Type 0 where
   pub kind : Kind
-  pub is_named : named n ≡ Known kind
+  pub is_named : named n ≡ some kind
   pub holds : condition_at kind s t ≡ true
   pub below_limit : at_limit kind s t ≡ false
   pub number : m ≡ n
@@ -93,20 +92,20 @@ pub record Accepted (s n m : ℕ) (t : Tree) : Type 0 where
 pub data StepCause (s n : ℕ) (S : State) : Refusal → Type 0 where
   in_empty : S.top ≡ empty → StepCause s n S NoInnerNode
   no_inner_case : {t : Tree} → S.top ≡ full t → no_inner s S t ≡ true → StepCause s n S NoInnerNode
-  no_kind : {t : Tree} → S.top ≡ full t → no_inner s S t ≡ false → named n ≡ Unknown → StepCause s n S NoSuchKind
-  condition_false : {t : Tree} {k : Kind} → S.top ≡ full t → no_inner s S t ≡ false → named n ≡ Known k → condition_at k s t ≡ false
+  no_kind : {t : Tree} → S.top ≡ full t → no_inner s S t ≡ false → named n ≡ none → StepCause s n S NoSuchKind
+  condition_false : {t : Tree} {k : Kind} → S.top ≡ full t → no_inner s S t ≡ false → named n ≡ some k → condition_at k s t ≡ false
       → StepCause s n S ConditionFalse
-  at_limit_case : {t : Tree} {k : Kind} → S.top ≡ full t → no_inner s S t ≡ false → named n ≡ Known k → condition_at k s t ≡ true → at_limit k s t ≡ true
+  at_limit_case : {t : Tree} {k : Kind} → S.top ≡ full t → no_inner s S t ≡ false → named n ≡ some k → condition_at k s t ≡ true → at_limit k s t ≡ true
       → StepCause s n S LevelLimit
 
 -- The command, case by case
 pub data StepCase (s n : ℕ) (S : State) : Outcome → Type 0 where
   refused : {f : Refusal} → StepCause s n S f → StepCase s n S (refuses f S)
-  taken : {t : Tree} {k : Kind} → S.top ≡ full t → no_inner s S t ≡ false → named n ≡ Known k → allowed s k t ≡ true
+  taken : {t : Tree} {k : Kind} → S.top ≡ full t → no_inner s S t ≡ false → named n ≡ some k → allowed s k t ≡ true
       → StepCase s n S (gives (Done (kind_number k)) (state S.slots (full (stepped k s t)) S.free))
 
 module _ (s n : ℕ) (S : State) where
-  pub stepping_kind : (t : Tree) (k : Kind) → S.top ≡ full t → no_inner s S t ≡ false → named n ≡ Known k → StepCase s n S (step_kind s k S t)
+  pub stepping_kind : (t : Tree) (k : Kind) → S.top ≡ full t → no_inner s S t ≡ false → named n ≡ some k → StepCase s n S (step_kind s k S t)
   unfolding step_kind
   stepping_kind t k e f g = go (condition_at k s t) refl (at_limit k s t) refl
     where
@@ -118,10 +117,10 @@ module _ (s n : ℕ) (S : State) where
       go true i false j = taken e f g ((allowed_exactly s k t).1 (i, j))
       go false i c j = refused (condition_false e f g i)
 
-  pub stepping_named : (t : Tree) → S.top ≡ full t → no_inner s S t ≡ false → (a : Named) → named n ≡ a → StepCase s n S (step_named s a S t)
+  pub stepping_named : (t : Tree) → S.top ≡ full t → no_inner s S t ≡ false → (a : Option Kind) → named n ≡ a → StepCase s n S (step_named s a S t)
   unfolding step_named
-  stepping_named t e f Unknown g = refused (no_kind e f g)
-  stepping_named t e f (Known k) g = stepping_kind t k e f g
+  stepping_named t e f none g = refused (no_kind e f g)
+  stepping_named t e f (some k) g = stepping_kind t k e f g
 
   pub stepping : StepCase s n S (step s n S)
   unfolding step
@@ -148,7 +147,7 @@ module _ (s n : ℕ) (S : State) where
   step_caused (condition_false e f g c) = rw (e, step, f, g, c, step_kind)
   step_caused (at_limit_case e f g c l) = rw (e, step, f, g, c, step_kind, l)
 
-  pub step_taken : (t : Tree) (k : Kind) → S.top ≡ full t → no_inner s S t ≡ false → named n ≡ Known k → allowed s k t ≡ true
+  pub step_taken : (t : Tree) (k : Kind) → S.top ≡ full t → no_inner s S t ≡ false → named n ≡ some k → allowed s k t ≡ true
       → step s n S ≡ gives (Done (kind_number k)) (state S.slots (full (stepped k s t)) S.free)
   unfolding step step_named step_kind
   step_taken t k e f g a = let i = (allowed_exactly s k t).0 a in rw (e, step, f, g, i.0, step_kind, i.1)
@@ -212,7 +211,7 @@ module _ (s n : ℕ) (S : State) where
     -- "An allowed step is a slot and kind that would be accepted."
     pub allowed_accepted : (t : Tree) → S.top ≡ full t → (k : Kind) → n ≡ kind_number k → (allowed s k t ≡ true) ↔ ((step s n S).answer ≡ Done n)
     allowed_accepted t e k f =
-        let is : named n ≡ Known k = rw f (named_known k) in (
+        let is : named n ≡ some k = rw f (named_known k) in (
           λ a. let i = (allowed_exactly s k t).0 a in (accepted_iff t e n).1 (record { kind = k; is_named = is; holds = i.0; below_limit = i.1; number = refl }),
           λ d.
               let a = (accepted_iff t e n).0 d in

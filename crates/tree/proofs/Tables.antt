@@ -4,6 +4,9 @@ use mathlib.Core.Path.{◌≡◌, sym}
 use mathlib.Core.List.{List, [], ◌∷◌}
 use mathlib.Core.Option.{none, some, some-ne-none}
 use lib.ListN.{length, drop, get_elem?}
+use Rattle.std.specs.Prelude.{◌==◌, Some, None}
+use Rattle.std.specs.List.{find}
+use Rattle.std.proofs.Common.{refl, eq-eqb, ne_eqb}
 use native.Mathlib.Omega.{arith}
 use Prim.Native.Nat.{ℕ, zero, suc, ◌+◌, ◌<◌}
 
@@ -33,3 +36,10 @@ module _ {A : Type 0} where
     listed_number m [] h n e = cc
     listed_number m (y ∷ ys) h zero {x} e = let same : y ≡ x = cc in omega (arith, rw same at h.0)
     listed_number m (y ∷ ys) h (suc n) e = omega (arith, listed_number (suc m) ys h.1 n e)
+
+    -- A search for the element with a number finds the one at its place.
+    pub found_numbered : (m : ℕ) (xs : List A) → Numbered m xs → (n t : ℕ) → t ≡ m + n
+        → find (λ x. number x == t) xs ≡ elim (get_elem? xs n) [ some x ↦ Some x | none ↦ None ]
+    found_numbered m [] h n t e = refl
+    found_numbered m (y ∷ ys) h zero t e = rw (eq-eqb (number y) t (omega (arith, h.0))) refl
+    found_numbered m (y ∷ ys) h (suc n) t e = rw (ne_eqb (number y) t (λ same. omega (arith, h.0))) (found_numbered (suc m) ys h.1 n t (omega arith))

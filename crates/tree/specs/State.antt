@@ -1,10 +1,9 @@
 -- What a pool means (RULES 1): C, the tree or none, the free slots in their order; which States are sound (RULES 2); what each command but
 -- settle does to one (RULES 3, 4); and its report (RULES 6).
 use Rattle.std.specs.Prelude.{◌≡◌, Bool, true, false, not, ◌||◌, List, [], ◌∷◌, eqb, ltb, ℕ, zero, suc, ◌+◌, ◌≤◌, ◌<◌, ◌^◌}
+use Rattle.std.proofs.Math.Option.{Option, none, some}
 use Rattle.tree.specs.declared.Refusal.TheVariants.{KeyPresent, KeyAbsent, NoRoom, NoInnerNode, NoSuchKind, ConditionFalse, LevelLimit}
 use Rattle.tree.specs.declared.Kind.{Kind}
-use Rattle.tree.specs.declared.Named.{Named}
-use Rattle.tree.specs.declared.Named.TheVariants.{Known, Unknown}
 use Rattle.tree.specs.declared.Refusal.{Refusal}
 use Rattle.tree.specs.declared.Answer.{Answer}
 use Rattle.tree.specs.declared.Answer.TheVariants.{Done, Refused}
@@ -152,9 +151,9 @@ step_kind s k S t = elim (condition_at k s t) [
   | false ↦ refuses ConditionFalse S
 ]
 
-unfoldable pub step_named : ℕ → Named → State → Tree → Outcome
-step_named s Unknown S t = refuses NoSuchKind S
-step_named s (Known k) S t = step_kind s k S t
+unfoldable pub step_named : ℕ → Option Kind → State → Tree → Outcome
+step_named s none S t = refuses NoSuchKind S
+step_named s (some k) S t = step_kind s k S t
 
 unfoldable pub step : ℕ → ℕ → State → Outcome
 step s n S = elim S.top [

@@ -9,7 +9,7 @@ use Rattle.batch.proofs.run.Given as goal
 
 abbrev pub invariant-loop-at : goal.invariant-loop-at
 invariant-loop-at l =
-    (length l.pool ≡ length l.fn.pool) × (length l.answers ≡ length l.fn.answers) × Turn l.bytes (batch l.fn.pool l.bytes l.fn.answers) l.left l.pool l.answers l.at l.place
+    (length l.pool ≡ length l.fn.pool) × (length l.answers ≡ length l.fn.answers) × Turn l.bytes (batch l.fn.pool l.bytes l.fn.answers) l.h l.pool l.answers l.at l.place
 
 abbrev pub decreases-loop-at : goal.decreases-loop-at
 decreases-loop-at l = 2 * most_commands - l.place

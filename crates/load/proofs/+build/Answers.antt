@@ -1,5 +1,5 @@
--- By the laws of Building.antt. The two returns for numbers that do not read are never taken. Assumes nothing.
-use Rattle.std.proofs.Common.{sym, arith}
+-- By the laws of Building.antt. Both numbers read. Assumes nothing.
+use Rattle.std.proofs.Common.{sym, ◌∙◌, arith}
 use Rattle.load.proofs.Building.{build_live, build_room, build_leaf, buildable_left, buildable_right, build_node}
 use Rattle.load.proofs.+build.Goals as goal
 
@@ -7,7 +7,7 @@ pub overflow_add-result : goal.overflow_add-result
 overflow_add-result t c = omega (arith, build_room c.requires)
 
 pub returns-then-a-eq0 : goal.returns-then-a-eq0
-returns-then-a-eq0 t c = build_leaf (sym c.in-Read.ensures) (sym c.in-Read-number.ensures) c.if-a-eq0.true c.put_slot.ensures
+returns-then-a-eq0 t c = build_leaf (sym c.number.ensures ∙ c.unwrap-a.ensures) (sym c.number-2.ensures ∙ c.unwrap-k.ensures) c.if-a-eq0.true c.put_slot.ensures
 
 pub overflow_add-s : goal.overflow_add-s
 overflow_add-s t c = omega (arith, build_room c.requires)
@@ -17,7 +17,7 @@ overflow_sub-left t c = build_live c.requires
 
 pub build-l-requires : goal.build-l-requires
 build-l-requires t c =
-    (omega (arith, build_live c.requires), buildable_left (sym c.in-Read.ensures) (sym c.in-Read-number.ensures) c.if-a-eq0.false c.requires)
+    (omega (arith, build_live c.requires), buildable_left (sym c.number.ensures ∙ c.unwrap-a.ensures) (sym c.number-2.ensures ∙ c.unwrap-k.ensures) c.if-a-eq0.false c.requires)
 
 pub overflow_sub-left-2 : goal.overflow_sub-left-2
 overflow_sub-left-2 t c = build_live c.requires
@@ -25,9 +25,9 @@ overflow_sub-left-2 t c = build_live c.requires
 pub build-r-requires : goal.build-r-requires
 build-r-requires t c = (
   omega (arith, build_live c.requires),
-  buildable_right (sym c.in-Read.ensures) (sym c.in-Read-number.ensures) c.if-a-eq0.false c.requires c.build-l.ensures,
+  buildable_right (sym c.number.ensures ∙ c.unwrap-a.ensures) (sym c.number-2.ensures ∙ c.unwrap-k.ensures) c.if-a-eq0.false c.requires c.build-l.ensures,
 )
 
 pub returns : goal.returns
 returns t c =
-    build_node (sym c.in-Read.ensures) (sym c.in-Read-number.ensures) c.if-a-eq0.false c.build-l.ensures c.build-r.ensures (omega arith) (omega arith) c.put_slot-2.ensures
+    build_node (sym c.number.ensures ∙ c.unwrap-a.ensures) (sym c.number-2.ensures ∙ c.unwrap-k.ensures) c.if-a-eq0.false c.build-l.ensures c.build-r.ensures (omega arith) (omega arith) c.put_slot-2.ensures

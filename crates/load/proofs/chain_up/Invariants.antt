@@ -1,10 +1,6 @@
--- The loop's invariant, `Chaining`: with the slots from s on chained too, all are. The measure is what is left of them.
-use Rattle.std.proofs.Common.{◌+◌, ◌-◌}
+-- The loop's invariant, `Chaining`: with the slots from s on chained too, all are. Assumes nothing.
 use Rattle.load.proofs.Chaining.{Chaining}
 use Rattle.load.proofs.chain_up.Given as goal
 
 abbrev pub invariant-loop-s : goal.invariant-loop-s
 invariant-loop-s l = Chaining l.fn.pool l.pool l.first l.last l.s
-
-abbrev pub decreases-loop-s : goal.decreases-loop-s
-decreases-loop-s l = l.last + 1 - l.s

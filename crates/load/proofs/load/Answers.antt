@@ -5,8 +5,8 @@ use Rattle.load.proofs.load.Goals as goal
 
 pub returns-clause-answer : goal.returns-clause-answer
 returns-clause-answer c =
-    (load_filled c.in-Set.ensures _ (sym c.if-not-length_good.ensures) c.last_slot.ensures c.if-c-last_slot.false c.build_all.ensures).0
+    (load_filled c.in-Some.ensures _ (sym c.if-not-length_good.ensures) c.last_slot.ensures c.if-said-last_slot.false c.build_all.ensures).0
 
 pub returns-clause-pool : goal.returns-clause-pool
 returns-clause-pool c =
-    (load_filled c.in-Set.ensures _ (sym c.if-not-length_good.ensures) c.last_slot.ensures c.if-c-last_slot.false c.build_all.ensures).1
+    (load_filled c.in-Some.ensures _ (sym c.if-not-length_good.ensures) c.last_slot.ensures c.if-said-last_slot.false c.build_all.ensures).1
