@@ -76,10 +76,23 @@ module _ (p bytes out : List ℕ) {long : Bool} (l : long ≡ length_good p) whe
         let x = scanned_commands (read_batch bytes) (sym scan ∙ e) in
         few_ends p bytes out (sym l ∙ not-false long t) x.1 (omega (arith, x.2))
 
-    pub test_broken : 2 * n ≤ length out → {given : Result Header Unsound} → given ≡ audited p → {u : Unsound} → given ≡ Err u
-        → batch p bytes out ≡ refused (refusal_of u) p out
-    test_broken h {given} a {u} b =
-        let x = scanned_commands (read_batch bytes) (sym scan ∙ e) in
-        let good = sym l ∙ not-false long t in
-        let w = broken_told p good u (sym a ∙ b) in
-        rw w.1 (broken_ends p bytes out good x.1 (omega (arith, x.2)) w.0)
+    -- 2: of the audit's two causes one is left
+    module _ (h : 2 * n ≤ length out) {u : Unsound} (b : audited p ≡ Err u) where
+      broken_refused : (refusal_of u ≡ RulesBroken) × (batch p bytes out ≡ refused RulesBroken p out)
+      broken_refused =
+          let x = scanned_commands (read_batch bytes) (sym scan ∙ e) in
+          let good = sym l ∙ not-false long t in
+          let w = broken_told p good u b in
+          (w.1, broken_ends p bytes out good x.1 (omega (arith, x.2)) w.0)
+
+      pub broken_code : call_code (Err (refusal_of u)) ≡ (batch p bytes out).code
+      broken_code = rw (broken_refused.0, broken_refused.1) (sym (call_refuses RulesBroken p out).0)
+
+      pub broken_number : call_number (Err (refusal_of u)) ≡ (batch p bytes out).number
+      broken_number = rw (broken_refused.0, broken_refused.1) (sym (call_refuses RulesBroken p out).1.0)
+
+      pub broken_pool : p ≡ (batch p bytes out).pool
+      broken_pool = rw broken_refused.1 (sym (call_refuses RulesBroken p out).1.1.0)
+
+      pub broken_answers : out ≡ (batch p bytes out).answers
+      broken_answers = rw broken_refused.1 (sym (call_refuses RulesBroken p out).1.1.1)
