@@ -15,7 +15,7 @@ use Rattle.tree.specs.State.{report, figures}
 use Rattle.encoding.specs.Batch.{Call, called, refused, batch}
 use Rattle.encoding.proofs.Endings.{Ending, length_refused, bad_command, few_answers, rules_refused, ran, ending}
 use Rattle.commands.proofs.Running.{batch_bad}
-use Rattle.report.specs.declared.Reported.{Reported}
+use Rattle.report.specs.Report.{Reported}
 use Rattle.report.specs.Report.{report_of, figure_at}
 use Rattle.report.proofs.Exact.{report_kept, number_refused}
 use Rattle.report.proofs.Reports.{figure_other}

@@ -1,3 +1,4 @@
+pub mod Called
 pub mod Exports
 pub mod Restart
 pub mod Places

@@ -12,7 +12,7 @@ use Rattle.format.specs.Words.{words_of}
 use Rattle.format.specs.Shows.{PoolShows}
 use Rattle.format.specs.Audit.{state_of}
 use Rattle.format.proofs.Shown.{shows_words}
-use Rattle.report.specs.declared.Reported.{Reported}
+use Rattle.report.specs.Report.{Reported}
 use Rattle.report.specs.Report.{reported, report_of}
 use Rattle.report.proofs.Exact.{report_exact}
 use Rattle.updates.specs.Updating.{search_answer}

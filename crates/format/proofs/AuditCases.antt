@@ -27,6 +27,18 @@ pub data Case (p : List ℕ) : Result Header Unsound → Type 0 where
   rules_broken : length_good p ≡ true → rules_hold p ≡ false → Case p (Err Broken)
   rules_kept : length_good p ≡ true → rules_hold p ≡ true → Case p (Ok (header_of p))
 
+-- Where nothing more is given, the code tells all.
+pub told_by_code : (r s : Result (Unit {0}) Unsound) → audited_code r ≡ audited_code s → r ≡ s
+told_by_code (Ok a) (Ok b) e = refl
+told_by_code (Ok a) (Err Length) e = absurd (omega arith)
+told_by_code (Ok a) (Err Broken) e = absurd (omega arith)
+told_by_code (Err Length) (Ok b) e = absurd (omega arith)
+told_by_code (Err Length) (Err Length) e = refl
+told_by_code (Err Length) (Err Broken) e = absurd (omega arith)
+told_by_code (Err Broken) (Ok b) e = absurd (omega arith)
+told_by_code (Err Broken) (Err Length) e = absurd (omega arith)
+told_by_code (Err Broken) (Err Broken) e = refl
+
 module _ (p : List ℕ) where
   pub audited_case : Case p (audited p)
   unfolding audited

@@ -1,4 +1,4 @@
-pub mod Stores
+pub mod Texts
 pub mod Batches
 pub mod Rendering
 pub mod Decides

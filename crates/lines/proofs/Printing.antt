@@ -1,12 +1,12 @@
 -- What is printed, for every input: the prepared pool passes the audit and the answer words are enough for any batch, so a batch that
 -- reads gets the lines of its commands' answers from an empty State of 127 slots, and one that does not gets one line, code 3 and the byte
 -- at which it goes wrong (`printed_shown`, `printed_bad`). Assumes nothing.
-use mathlib.Core.Path.{◌≡◌, refl, sym, ap, ◌∙◌}
+use mathlib.Core.Path.{◌≡◌, refl, ap, ◌∙◌}
 use mathlib.Core.Bool.{true}
-use mathlib.Core.List.{List, [], ◌∷◌, ◌++◌, append_assoc, append-nil}
-use Prim.Native.Nat.{ℕ, zero, suc, ◌+◌, ◌*◌, ◌≤◌}
+use mathlib.Core.List.{List, [], ◌∷◌, ◌++◌}
+use Prim.Native.Nat.{ℕ, ◌*◌, ◌≤◌}
 use native.Mathlib.Omega.{arith}
-use lib.ListN.{length, get_or, replicate, length-replicate}
+use lib.ListN.{length, replicate, length-replicate}
 use Rattle.tree.specs.declared.Answer.{Answer}
 use Rattle.tree.specs.Codes.{code_of, number_of}
 use Rattle.tree.specs.State.{State, prepared}
@@ -22,6 +22,7 @@ use Rattle.encoding.proofs.AnswerWords.{answers_length}
 use Rattle.commands.specs.Faults.{FirstBad}
 use Rattle.commands.proofs.Faults.{bad_exactly}
 use Rattle.commands.proofs.Running.{batch_size}
+use Rattle.lines.proofs.Texts.{lines_first}
 use Rattle.lines.specs.Printed.{line, refused_line, lines, how_many, program_slots, program_call, printed_of, printed}
 
 -- a line for each answer
@@ -32,20 +33,6 @@ answer_lines (a ∷ rest) = line (code_of a) (number_of a) ++ answer_lines rest
 unfoldable pub shown : Batch → List ℕ
 shown (commands cs) = answer_lines (answers_of cs (prepared program_slots))
 shown (bad_at i) = refused_line 3 i
-
--- the lines of an answer's two words and of the words after them
-lines_first : (n c m : ℕ) (words : List ℕ) → lines (suc n) (c ∷ m ∷ words) ≡ line c m ++ lines n words
-unfolding lines
-lines_first zero c m words = sym (append-nil (line c m))
-lines_first (suc n) c m words =
-    ap (λ (l : List ℕ). l ++ line (get_or (c ∷ m ∷ words) (2 * suc n) 0) (get_or (c ∷ m ∷ words) (2 * suc n + 1) 0)) (lines_first n c m words)
-    ∙ rw (even, odd) (append_assoc (line c m) (lines n words) (line (get_or words (2 * n) 0) (get_or words (2 * n + 1) 0)))
-  where
-    even : 2 * suc n ≡ suc (suc (2 * n))
-    even = omega arith
-
-    odd : suc (suc (2 * n)) + 1 ≡ suc (suc (2 * n + 1))
-    odd = omega arith
 
 lines_answers : (ans : List Answer) (rest : List ℕ) → lines (length ans) (answer_words ans ++ rest) ≡ answer_lines ans
 unfolding lines answer_words answer_lines

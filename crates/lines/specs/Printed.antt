@@ -30,6 +30,10 @@ line code number = decimal code ++ (space ∷ decimal number ++ (newline ∷ [])
 abbrev pub line_bytes : ℕ
 line_bytes = 22
 
+-- and a batch at most
+abbrev pub most_printed : ℕ
+most_printed = most_commands * line_bytes
+
 -- RULES 11.3: "for a call refused whole, "refused", space, code, space, number"
 abbrev pub refused_word : List ℕ
 refused_word = 114 ∷ 101 ∷ 102 ∷ 117 ∷ 115 ∷ 101 ∷ 100 ∷ []

@@ -1,9 +1,6 @@
 -- What reading standard input may answer. This page serves RULES 11.1.
-use Rattle.std.specs.Prelude.{ℕ, ◌≤◌}
-use Rattle.marks.specs.declared.Input.{Input}
-use Rattle.marks.specs.declared.Input.TheVariants.{Bytes, Unread}
+use Rattle.std.specs.Prelude.{ℕ, ◌≤◌, Result, IfOk}
 
 -- a count within n bytes, or a read that failed
-abbrev pub Within : Input → ℕ → Type 0
-Within (Bytes k) n = k ≤ n
-Within Unread n = Unit {0}
+abbrev pub Within : {E : Type 0} → Result ℕ E → ℕ → Type 0
+Within r n = IfOk r (λ k. k ≤ n)

@@ -16,26 +16,19 @@ const MOST_READ: usize = 4096;
 // The status where nobody reads any more what is written: as of a program that SIGPIPE ends, of which there is no word either.
 const NO_READER: u8 = 141;
 
-// How many bytes were read, or that a read failed.
-#[derive(Clone, Copy)]
-enum Input {
-    Bytes(usize),
-    Unread,
-}
-
-// Reads until buf is full or the input ends.
-fn read_all<R: Read>(from: &mut R, buf: &mut [u8]) -> Input
+// Reads until buf is full or the input ends, and says how many bytes. (std's read_exact takes a short input for a fault, and its
+// read_to_end takes a Vec, which is on the heap.)
+fn read_all<R: Read>(from: &mut R, buf: &mut [u8]) -> io::Result<usize>
     ensures { Within result (length buf.new) }
 {
     let mut done = 0;
     while done < buf.len() {
-        match from.read(&mut buf[done..]) {
-            Ok(0) => return Input::Bytes(done),
-            Ok(more) => done += more,
-            Err(_) => return Input::Unread,
+        match from.read(&mut buf[done..])? {
+            0 => break,
+            more => done += more,
         }
     }
-    Input::Bytes(done)
+    Ok(done)
 }
 
 // The one write: what it is handed is what is printed of the bytes read.
@@ -61,21 +54,16 @@ fn say_unwritten(rt: &impl Eprint) {
 
 fn main(rt: HostRuntime) -> ExitCode {
     let mut buf = [0u8; MOST_READ];
-    let input = read_all(&mut rt.stdin(), &mut buf);
-    match input {
-        Input::Unread => {
-            say_unread(&rt);
+    let Ok(n) = read_all(&mut rt.stdin(), &mut buf) else {
+        say_unread(&rt);
+        return ExitCode::FAILURE;
+    };
+    match run(&rt, &buf[..n]) {
+        Ok(()) => ExitCode::SUCCESS,
+        Err(e) if e.kind() == ErrorKind::BrokenPipe => ExitCode::from(NO_READER),
+        Err(_) => {
+            say_unwritten(&rt);
             ExitCode::FAILURE
         }
-        Input::Bytes(n) => match run(&rt, &buf[..n]) {
-            Ok(()) => ExitCode::SUCCESS,
-            Err(e) => {
-                if e.kind() == ErrorKind::BrokenPipe {
-                    return ExitCode::from(NO_READER);
-                }
-                say_unwritten(&rt);
-                ExitCode::FAILURE
-            }
-        },
     }
 }

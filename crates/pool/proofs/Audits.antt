@@ -18,7 +18,7 @@ use Rattle.format.proofs.Shown.{good_length}
 use Rattle.format.proofs.Cover.{LocalFacts, local_facts, facts_shows, facts_sound, sound_local}
 use Rattle.format.proofs.Rules.{rules_show}
 use Rattle.format.proofs.AuditCases.{Words32, audited_length, audited_broken, audited_passed}
-use Rattle.std.specs.Prelude.{Option, Some, None, Ok, Err}
+use Rattle.std.specs.Prelude.{Ok, Err, Option, Some, None}
 use Rattle.pool.specs.declared.Whole.{Whole}
 use Rattle.pool.specs.Standing.{allowance}
 use Rattle.pool.specs.Visits.{chain_tour, top_tour, counted, walks_tour, audit_tour}

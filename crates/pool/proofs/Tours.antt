@@ -15,7 +15,7 @@ use Rattle.format.specs.declared.Slot.{Slot}
 use Rattle.format.specs.declared.Unsound.TheVariants.{Length, Broken}
 use Rattle.format.specs.Words.{header_of, slot_at, slots_in, length_good, free_weight}
 use Rattle.format.specs.Audit.{is_slot, free_words}
-use Rattle.std.specs.Prelude.{Option, Some, None, Ok, Err}
+use Rattle.std.specs.Prelude.{Ok, Err, Option, Some, None}
 use Rattle.pool.specs.declared.Whole.{Whole}
 use Rattle.format.proofs.Slots.{slot_eq}
 use Rattle.pool.specs.Walks.{most_sum, FreeSays}

@@ -18,7 +18,7 @@ use Rattle.format.specs.declared.Unsound.TheVariants.{Length, Broken}
 use Rattle.format.specs.Words.{header_of, slot_at, slots_in, length_good}
 use Rattle.format.specs.Audit.{is_slot, free_words, audited}
 use Rattle.format.proofs.AuditCases.{Words32}
-use Rattle.std.specs.Prelude.{Option, Some, None, Result, Ok, Err}
+use Rattle.std.specs.Prelude.{Result, Ok, Err, Option, Some, None}
 use Rattle.pool.specs.declared.Whole.{Whole}
 use Rattle.pool.specs.Standing.{allowance}
 use Rattle.pool.specs.Visits.{Tour, leaf_test, leaf_walk, join_test, join_walk, inner_tour, tree_tour, off_root, top_tour, chain_tour, counted, walks_tour, audit_tour, audit_visits}

@@ -1,7 +1,7 @@
 -- The audit's walks as definitions that compute, with the code's recursion, loop and order: what each answers, and how many visits it
 -- makes. A visit is a call of `walk_tree` or a turn of the loop of `walk_chain`; it reads one slot at most. (Besides, `walk_top` reads
 -- the root's slot once.) No public contract cites this page; it serves RULES 2.
-use Rattle.std.specs.Prelude.{Option, Some, None, Bool, true, false, ◌&&◌, List, eqb, leb, ltb, ℕ, zero, suc, ◌+◌, ◌-◌, Result, Err, Ok}
+use Rattle.std.specs.Prelude.{Result, Ok, Err, Option, Some, None, Bool, true, false, ◌&&◌, List, eqb, leb, ltb, ℕ, zero, suc, ◌+◌, ◌-◌}
 use Rattle.tree.specs.State.{key_end}
 use Rattle.format.specs.declared.Header.{Header}
 use Rattle.format.specs.declared.Slot.{Slot}

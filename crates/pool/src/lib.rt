@@ -6,7 +6,7 @@ ghost use Rattle.format.specs.Audit.{audited, audited_code, audit_code};
 ghost use Rattle.pool.specs.Results.{prepare_code, prepared_words};
 ghost use Rattle.pool.specs.Standing.{allowance};
 ghost use Rattle.pool.specs.Walks.{FreeSays};
-ghost use Rattle.pool.specs.Visits.{leaf_walk, join_walk, tree_tour, top_tour, chain_tour};
+ghost use Rattle.pool.specs.Visits.{leaf_walk, join_walk, tree_tour, top_tour, chain_tour, audit_tour};
 
 use format::{Header, Slot, Unsound};
 use slots::{
@@ -66,23 +66,11 @@ const MOST_SUM: u32 = MOST_LEVEL + ROOT_WEIGHT;
 
 // A slot whose left is 0, as a leaf with its key from lo to below hi. This and `join` are the rules of a tree's leaves and nodes, for the
 // audit's walk and for the reader of the saved form.
-#[tactic(auto, using(crate::proofs::Tours::leaf_good, crate::proofs::Tours::leaf_bad))]
+#[tactic(auto, unfolding(crate::specs::Visits::leaf_walk))]
 pub fn walk_leaf(c: Slot, lo: u64, hi: u64, rest: u32) -> Option<Whole>
     ensures { result ≡ leaf_walk c lo hi rest }
 {
-    if c.right != 0 {
-        return None;
-    }
-    if c.weight < 1 {
-        return None;
-    }
-    if MOST_SUM < c.weight {
-        return None;
-    }
-    if (c.key as u64) < lo {
-        return None;
-    }
-    if hi <= c.key as u64 {
+    if c.right != 0 || !(1..=MOST_SUM).contains(&c.weight) || !(lo..hi).contains(&(c.key as u64)) {
         return None;
     }
     Some(Whole {
@@ -92,21 +80,15 @@ pub fn walk_leaf(c: Slot, lo: u64, hi: u64, rest: u32) -> Option<Whole>
 }
 
 // An edge of weight w to an inner node, whose subtrees have the sums al and bl.
-#[tactic(auto, using(crate::proofs::Tours::join_good, crate::proofs::Tours::join_bad))]
+#[tactic(auto, unfolding(crate::specs::Visits::join_walk))]
 pub fn join(w: u32, rest: u32, al: u32, bl: u32) -> Option<Whole>
     ensures { result ≡ join_walk w rest al bl }
 {
-    if al != bl {
+    let sum = w.checked_add(al)?;
+    if al != bl || MOST_SUM < sum {
         return None;
     }
-    let sum = w as u64 + al as u64;
-    if (MOST_SUM as u64) < sum {
-        return None;
-    }
-    Some(Whole {
-        rest,
-        sum: sum as u32,
-    })
+    Some(Whole { rest, sum })
 }
 
 // The tree at slot s, its keys from lo to below hi, at most `left` nodes deep, of at most `most` nodes. A right side may have the nodes
@@ -116,13 +98,7 @@ pub fn join(w: u32, rest: u32, al: u32, bl: u32) -> Option<Whole>
 fn walk_tree(pool: &[u32], s: u32, lo: u64, hi: u64, left: u32, most: u32) -> Option<Whole>
     ensures { result ≡ (tree_tour left pool.now s lo hi most).answer }
 {
-    if left < 1 {
-        return None;
-    }
-    if most < 1 {
-        return None;
-    }
-    if !is_slot(pool, s) {
+    if left < 1 || most < 1 || !is_slot(pool, s) {
         return None;
     }
     let c = get_slot(pool, s);
@@ -136,25 +112,23 @@ fn walk_tree(pool: &[u32], s: u32, lo: u64, hi: u64, left: u32, most: u32) -> Op
 }
 
 // The whole tree, none where the root is 0: the nodes left over, and L.
-#[tactic(auto, using(crate::proofs::Tours::top_none, crate::proofs::Tours::top_weight, crate::proofs::Tours::top_tree, crate::proofs::Visits::sum_from_weight))]
+#[tactic(auto, using(crate::proofs::Visits::sum_from_weight), unfolding(crate::specs::Visits::top_tour))]
 fn walk_top(pool: &[u32], root: u32, left: u32, most: u32) -> Option<Whole>
     ensures { result ≡ (top_tour pool.now root left most).answer }
 {
     if root == 0 {
         return Some(Whole { rest: most, sum: 0 });
     }
-    let c = get_slot(pool, root);
-    if c.weight != ROOT_WEIGHT {
+    if get_slot(pool, root).weight != ROOT_WEIGHT {
         return None;
     }
     let t = walk_tree(pool, root, 0, KEY_END, left, most)?;
     Some(Whole {
-        rest: t.rest,
         sum: t.sum - ROOT_WEIGHT,
+        ..t
     })
 }
 
-#[tactic(auto, using(format::proofs::Slots::slot_eq))]
 fn is_free(c: Slot) -> bool
     ensures { FreeSays c result }
 {
@@ -180,33 +154,33 @@ fn walk_chain(pool: &[u32], first: u32, n: u32) -> bool
     s == 0
 }
 
-// The audit. The chain may have C - N slots and the tree N nodes: at most C + 1 visits in all, on any words, and C where the pool passes
-// (`audit_visits_lem` and `passed_visits` in proofs/Visits.antt).
-#[tactic(auto, using(format::proofs::Shown::good_length, format::proofs::AuditCases::audited_length, crate::proofs::Tours::audit_nodes, crate::proofs::Tours::audit_walks, crate::proofs::Tours::walks_chain, crate::proofs::Tours::walks_tree, crate::proofs::Tours::counted_other, crate::proofs::Tours::counted_level, crate::proofs::Tours::counted_all, crate::proofs::Audits::audit_tour_lem))]
-pub fn examine(pool: &[u32]) -> Result<Header, Unsound>
-    ensures { result ≡ audited pool.now }
+// The audit as it is walked. The chain may have C - N slots and the tree N nodes: at most C + 1 visits in all, on any words, and C where
+// the pool passes (`audit_visits_lem` and `passed_visits` in proofs/Visits.antt).
+#[tactic(auto, using(format::proofs::Shown::good_length), unfolding(crate::specs::Visits::audit_tour, crate::specs::Visits::walks_tour))]
+fn walk_all(pool: &[u32]) -> Result<Header, Unsound>
+    ensures { result ≡ (audit_tour pool.now).answer }
 {
     if !length_good(pool) {
         return Err(Unsound::Length);
     }
     let slots = slots_in(pool) as u32;
     let h = get_header(pool);
-    if slots < h.nodes {
+    if slots < h.nodes || !walk_chain(pool, h.free, slots - h.nodes) {
         return Err(Unsound::Broken);
     }
-    if !walk_chain(pool, h.free, slots - h.nodes) {
-        return Err(Unsound::Broken);
-    }
-    let Some(top) = walk_top(pool, h.root, allowance(pool), h.nodes) else {
-        return Err(Unsound::Broken);
-    };
-    if top.rest != 0 {
-        return Err(Unsound::Broken);
-    }
-    if top.sum != h.level {
+    let top = walk_top(pool, h.root, allowance(pool), h.nodes).ok_or(Unsound::Broken)?;
+    if top.rest != 0 || top.sum != h.level {
         return Err(Unsound::Broken);
     }
     Ok(h)
+}
+
+// The audit: the header of a pool that keeps the rules, or why it does not.
+#[tactic(auto, using(crate::proofs::Audits::audit_tour_lem))]
+pub fn examine(pool: &[u32]) -> Result<Header, Unsound>
+    ensures { result ≡ audited pool.now }
+{
+    walk_all(pool)
 }
 
 // 01: "audit and report give 0, 1 or 2".

@@ -19,8 +19,7 @@ use Rattle.format.specs.Shows.{PoolShows}
 use Rattle.format.specs.Audit.{rules_hold, state_of}
 use Rattle.format.proofs.Rules.{rules_show, show_rules}
 use Rattle.format.proofs.AuditCases.{Words32, audited_length, audited_broken, audited_kept}
-use Rattle.report.specs.declared.Reported.{Reported}
-use Rattle.report.specs.Report.{reported, report_of, figure_at}
+use Rattle.report.specs.Report.{Reported, reported, report_of, figure_at}
 
 -- Code 0, and the numbers of the State that the words show.
 pub report_kept : (p : List ℕ) → length_good p ≡ true → rules_hold p ≡ true → report_of p ≡ reported 0 (report (state_of p).top)
@@ -54,7 +53,7 @@ unfolding figure_at
 each_figure P f z h zero = z
 each_figure P f z h (suc i) = each_of P (figures f) z h i
 
-zero_at : (i : ℕ) → figure_at i zeros ≡ 0
+pub zero_at : (i : ℕ) → figure_at i zeros ≡ 0
 unfolding All figures
 zero_at = each_figure (λ x. x ≡ 0) zeros refl (omega arith)
 

@@ -3,3 +3,4 @@ pub mod Reports
 pub mod Exact
 pub mod Summed
 pub mod Decides
+pub mod Told

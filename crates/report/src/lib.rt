@@ -1,18 +1,17 @@
 // Documents 01, Distances, and 02 (iii): the report's seven numbers, counted in two walks down the tree.
 #![tactic(auto)]
 
-ghost use Rattle.std.specs.Prelude.{◌≡◌, pred, ◌+◌, ◌*◌, ◌-◌, ◌≤◌};
-ghost use Rattle.tree.specs.Tree.{red, one};
+ghost use Rattle.std.specs.Prelude.{◌≡◌, Ok, pred, ◌+◌, ◌*◌, ◌-◌, ◌≤◌};
+ghost use Rattle.tree.specs.Tree.{red};
 ghost use Rattle.tree.specs.Distances.{BoundFits};
-ghost use Rattle.tree.specs.State.{zeros, report};
+ghost use Rattle.tree.specs.State.{report};
 ghost use Rattle.format.specs.Words.{slot_at};
-ghost use Rattle.format.specs.declared.Audited.TheVariants.{Passed};
 ghost use Rattle.format.specs.Audit.{state_of, audited};
 ghost use Rattle.pool.specs.Standing.{Standing};
 ghost use Rattle.report.specs.Counted.{lone_leaf, joined, adding, reds_in, overs_in, Counts, Small, Fits};
-ghost use Rattle.report.specs.Report.{report_of, figure_at};
+ghost use Rattle.report.specs.Report.{told, report_of, figure_at};
 
-use format::{Audited, Header};
+use format::{Header, Unsound};
 use pool::{allowance, examine};
 use slots::get_slot;
 use tree::Figures;
@@ -78,74 +77,37 @@ fn outside(n: u32, nodes: u64) -> u64
 fn is_red(pool: &[u32], s: u32) -> bool
     ensures { result ≡ red (slot_at pool.now s).weight }
 {
-    let c = get_slot(pool, s);
-    c.weight == RED
-}
-
-#[tactic(auto, unfolding(tree::specs::Tree::one))]
-fn red_edge(yes: bool) -> u64
-    ensures { result ≡ one yes }
-{
-    if yes { 1 } else { 0 }
+    get_slot(pool, s).weight == RED
 }
 
 // 01: "a node below a red edge adds one conflict per red child edge, a node below any other edge (and the root) adds none, and each
-// passes its children to either." The subtree at slot s, in a tree of n nodes, at most `left` nodes deep: its conflicts, and
-// outside(u) for each.
-#[cycle(below_other_below_red_either)]
-fn below_red(pool: &[u32], s: u32, n: u32, left: u32) -> Counted
-    requires { Standing pool.now s n left }
-    ensures { Counts (λ w t. reds_in n 0 t) pool.now s n left result }
+// passes its children to either." The subtree at slot s, whose edge is red or not, in a tree of n nodes, at most `left` nodes deep: its
+// conflicts, and outside(u) for each.
+fn reds(pool: &[u32], under_red: bool, s: u32, n: u32, left: u32) -> Counted
+    requires { Standing pool.now s n left × (under_red ≡ red (slot_at pool.now s).weight) }
+    ensures { Counts (reds_in n) pool.now s n left result }
 {
     let c = get_slot(pool, s);
     if c.left == 0 {
         return lone_leaf();
     }
     let l = is_red(pool, c.left);
-    let a = either(pool, l, c.left, n, left - 1);
+    let a = reds(pool, l, c.left, n, left - 1);
     let r = is_red(pool, c.right);
-    let b = either(pool, r, c.right, n, left - 1);
+    let b = reds(pool, r, c.right, n, left - 1);
     let u = joined(a, b);
-    let own = red_edge(l) + red_edge(r);
+    if !under_red {
+        return u;
+    }
+    let own = u64::from(l) + u64::from(r);
     adding(u, own, own * outside(n, u.nodes))
-}
-
-#[cycle(below_other_below_red_either)]
-fn below_other(pool: &[u32], s: u32, n: u32, left: u32) -> Counted
-    requires { Standing pool.now s n left }
-    ensures { Counts (λ w t. reds_in n 1 t) pool.now s n left result }
-{
-    let c = get_slot(pool, s);
-    if c.left == 0 {
-        return lone_leaf();
-    }
-    let a = either(pool, is_red(pool, c.left), c.left, n, left - 1);
-    let b = either(pool, is_red(pool, c.right), c.right, n, left - 1);
-    joined(a, b)
-}
-
-// A child is passed to the rule of the edge that leads to it.
-#[cycle(below_other_below_red_either)]
-fn either(pool: &[u32], under_red: bool, s: u32, n: u32, left: u32) -> Counted
-    requires { Standing pool.now s n left × (under_red ≡ red (slot_at pool.now s).weight) }
-    ensures { Counts (reds_in n) pool.now s n left result }
-{
-    if under_red {
-        below_red(pool, s, n, left)
-    } else {
-        below_other(pool, s, n, left)
-    }
 }
 
 // 02 (iii): "weight less one", if the edge is overweighted.
 fn excess(weight: u32) -> u64
     ensures { result ≡ pred weight }
 {
-    if BLACK < weight {
-        (weight - BLACK) as u64
-    } else {
-        0
-    }
+    u64::from(weight.saturating_sub(BLACK))
 }
 
 // 02 (iii): the third number, "the sum of weight less one". 01: "D adds (weight - 1) times outside(u) over overweighted edges to u." Of
@@ -175,58 +137,20 @@ fn step_bound(n: u64, d: u64, r: u64, q: u64) -> u64
     (3 * n + 1) * d + 2 * n * r + q
 }
 
-// The report's code, 0, 1 or 2, and its numbers.
-#[derive(Clone, Copy)]
-pub struct Reported {
-    pub code: u32,
-    pub figures: Figures,
-}
-
-impl Reported {
-    pub const NODES: u32 = 1;
-
-    pub const LEVEL: u32 = 2;
-
-    pub const EXCESS_WEIGHT: u32 = 3;
-
-    pub const CONFLICTS: u32 = 4;
-
-    pub const OVER_DISTANCE: u32 = 5;
-
-    pub const RED_DISTANCE: u32 = 6;
-
-    pub const BOUND: u32 = 7;
-
-    // 01: "takes an index, 1 first, and returns that number, 0 for a refused pool or any other index".
-    #[tactic(auto, using(crate::proofs::Reports::figure_none), unfolding(crate::specs::Report::figure_at, tree::specs::State::figures))]
-    pub fn number(self, index: u32) -> u64
-        ensures number { result ≡ figure_at index self.figures }
-    {
-        let f = self.figures;
-        match index {
-            Reported::NODES => f.nodes,
-            Reported::LEVEL => f.level,
-            Reported::EXCESS_WEIGHT => f.excess_weight,
-            Reported::CONFLICTS => f.conflicts,
-            Reported::OVER_DISTANCE => f.over_distance,
-            Reported::RED_DISTANCE => f.red_distance,
-            Reported::BOUND => f.bound,
-            _ => 0,
-        }
-    }
-}
-
-fn zeros() -> Figures
-    ensures { result ≡ zeros }
+// 01: "takes an index, 1 first, and returns that number, 0 for a refused pool or any other index".
+#[tactic(auto, using(crate::proofs::Reports::figure_none), unfolding(crate::specs::Report::figure_at, tree::specs::State::figures))]
+pub fn figure_at(f: Figures, index: u32) -> u64
+    ensures number { result ≡ figure_at index f }
 {
-    Figures {
-        nodes: 0,
-        level: 0,
-        excess_weight: 0,
-        conflicts: 0,
-        over_distance: 0,
-        red_distance: 0,
-        bound: 0,
+    match index {
+        1 => f.nodes,
+        2 => f.level,
+        3 => f.excess_weight,
+        4 => f.conflicts,
+        5 => f.over_distance,
+        6 => f.red_distance,
+        7 => f.bound,
+        _ => 0,
     }
 }
 
@@ -234,14 +158,14 @@ fn zeros() -> Figures
 // audit's does.
 #[tactic(auto, using(format::proofs::AuditCases::rules_are_kept, pool::proofs::Standing::no_root), unfolding(tree::specs::State::report))]
 fn figures(pool: &[u32], h: Header) -> Figures
-    requires { audited pool.now ≡ Passed h }
+    requires { audited pool.now ≡ Ok h }
     ensures { result ≡ report (state_of pool.now).top }
 {
     if h.root == 0 {
-        return zeros();
+        return Figures::default();
     }
     let left = allowance(pool);
-    let reds = below_other(pool, h.root, h.nodes, left);
+    let reds = reds(pool, false, h.root, h.nodes, left);
     let heavy = over(pool, h.root, h.nodes, left);
     let n = h.nodes as u64;
     let l = h.level as u64;
@@ -256,20 +180,12 @@ fn figures(pool: &[u32], h: Header) -> Figures
     }
 }
 
-// 01: "audit and report give 0, 1 or 2, the report with seven zeros when refused".
+// 01: "audit and report give 0, 1 or 2, the report with seven zeros when refused": with none, and whoever asks a refused report for a number
+// gets 0.
 #[tactic(auto, unfolding(crate::specs::Report::report_of))]
-pub fn report(pool: &[u32]) -> Reported
-    ensures report { result ≡ report_of pool.now }
+pub fn report(pool: &[u32]) -> Result<Figures, Unsound>
+    ensures report { told result ≡ report_of pool.now }
 {
-    let seen = examine(pool);
-    let code = seen.code();
-    let figures = match seen {
-        Audited::Length => zeros(),
-        Audited::Broken => zeros(),
-        Audited::Passed(h) => figures(pool, h),
-    };
-    Reported {
-        code: code,
-        figures: figures,
-    }
+    let h = examine(pool)?;
+    Ok(figures(pool, h))
 }

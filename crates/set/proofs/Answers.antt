@@ -26,7 +26,7 @@ use Rattle.format.specs.Words.{header_of, slots_in, length_good, root_of}
 use Rattle.format.specs.Shows.{HoldsTop, PoolShows}
 use Rattle.format.proofs.Frame.{holds_root}
 use Rattle.format.proofs.Shown.{shows_root, shows_nodes, shows_length_good}
-use Rattle.report.specs.declared.Reported.{Reported}
+use Rattle.report.specs.Report.{Reported}
 use Rattle.report.specs.Report.{report_of}
 use Rattle.report.proofs.Exact.{report_exact}
 use Rattle.pool.specs.Results.{prepared_words}

@@ -22,7 +22,7 @@ use Rattle.tree.proofs.Settling.{settle_sound_state}
 use Rattle.tree.proofs.SettleAnswers.{settle_state_falls, settle_state_within, Ended, ended_done, ended_spent, settle_ended}
 use Rattle.tree.proofs.Demand3.{bound_of, excess_of, BalancedState, accepted_falls, SomeAccepted, some_accepted_is, some_accepted as some-accepted-state, none_accepted as none-accepted-state, settle_code_0, settle_enough as settle-enough-state}
 use Rattle.format.specs.Shows.{PoolShows}
-use Rattle.report.specs.declared.Reported.{Reported}
+use Rattle.report.specs.Report.{Reported}
 use Rattle.report.specs.Report.{report_of}
 use Rattle.report.proofs.Exact.{report_exact}
 use Rattle.steps.specs.Steps.{step_answer, step_words, settle_answer, settle_words}

@@ -37,7 +37,7 @@ use Rattle.format.specs.Audit.{bare}
 use Rattle.format.proofs.Frame.{holds_root, weight_of_root}
 use Rattle.format.proofs.RulesFound.{not_bare}
 use Rattle.format.proofs.Shown.{shows_root, shows_nodes, shows_level, shows_tree}
-use Rattle.report.specs.declared.Reported.{Reported}
+use Rattle.report.specs.Report.{Reported}
 use Rattle.report.specs.Report.{report_of}
 use Rattle.report.proofs.Exact.{report_exact}
 use Rattle.pool.specs.Results.{prepared_words}

@@ -19,17 +19,11 @@ use Rattle.kinds.specs.Around.{around_at}
 use Rattle.kinds.specs.Conditions.{fits}
 use Rattle.kinds.proofs.ConditionShows.{condition_shows}
 use Rattle.steps.proofs.LevelShows.{limit_shows}
-use Rattle.steps.specs.Steps.{inner_at, limit_at}
-use Rattle.steps.proofs.AllowedShows.{inner_shows, inner_empty, no_condition}
+use Rattle.steps.specs.Steps.{inner_at, limit_at, lowest}
+use Rattle.steps.proofs.AllowedShows.{lowest_of, inner_shows, inner_empty, no_condition}
 use Rattle.settle.proofs.Scans.{all_false}
-use Rattle.settle.specs.declared.Lowest.{Lowest}
-use Rattle.settle.specs.declared.Lowest.TheVariants.{At, Nothing}
+use Rattle.std.specs.Prelude.{Option as Found, Some, None}
 use Rattle.settle.specs.Scanning.{slot_counts, allowed_around, allowed_words, first_kind, first_from, first_allowed}
-
--- the lowest step, as the code says it: with what stands around it
-unfoldable pub lowest_of : List ℕ → Option (ℕ × Kind) → Lowest
-lowest_of p (some a) = At a.0 a.1 (around_at p a.0)
-lowest_of p none = Nothing
 
 module _ (S : State) (t : Tree) (sound : Sound S) (e : S.top ≡ full t) {h : Header} (p : List ℕ) (shows : Shows h p S) where
   pub allowed_shows : (k : Kind) (s : ℕ) → allowed_words k h p s ≡ allowed s k t
@@ -53,7 +47,7 @@ module _ (S : State) (t : Tree) (sound : Sound S) (e : S.top ≡ full t) {h : He
   from_shows (suc n) s = rw (kind_shows kinds s, first_from) (go (lowest_kind kinds s t) (from_shows n (suc s)))
     where
       go : (o : Option Kind) → first_from n h p (suc s) ≡ lowest_of p (lowest_step n (suc s) t)
-          → elim o [ some k ↦ At s k (around_at p s) | none ↦ first_from n h p (suc s) ] ≡ lowest_of p (elim o [ some k ↦ some (s, k) | none ↦ lowest_step n (suc s) t ])
+          → elim o [ some k ↦ Some (lowest s k (around_at p s)) | none ↦ first_from n h p (suc s) ] ≡ lowest_of p (elim o [ some k ↦ some (s, k) | none ↦ lowest_step n (suc s) t ])
       go (some k) rest = refl
       go none rest = rest
 
@@ -66,7 +60,7 @@ module _ {h : Header} {p : List ℕ} {S : State} (sound : Sound S) (shows : Show
   unfolding allowed_words
   nothing_allowed k s = rw (inner_empty sound shows s e)
 
-  pub nothing_empty : (n s : ℕ) → first_from n h p s ≡ Nothing
+  pub nothing_empty : (n s : ℕ) → first_from n h p s ≡ None
   unfolding first_from
   nothing_empty zero s = refl
   nothing_empty (suc n) s = rw (all_false h p s kinds (λ k. nothing_allowed k s), first_from) (nothing_empty n (suc s))

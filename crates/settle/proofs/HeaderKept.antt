@@ -12,10 +12,10 @@ use Rattle.format.specs.Performing.{words_after}
 use Rattle.kinds.specs.declared.Around.{Around}
 use Rattle.kinds.specs.Around.{around_at}
 use Rattle.kinds.specs.Effects.{header_after}
-use Rattle.steps.specs.Steps.{taken_words}
+use Rattle.steps.specs.Steps.{taken_words, lowest}
 use Rattle.settle.proofs.Kept.{Kept, kept_same, kept_more, kept_step, level_written_lem}
-use Rattle.settle.specs.declared.Lowest.{Lowest}
-use Rattle.settle.specs.declared.Lowest.TheVariants.{At, Nothing}
+use Rattle.steps.specs.declared.Lowest.{Lowest}
+use Rattle.std.specs.Prelude.{Option as Found, Some, None}
 use Rattle.settle.specs.Awake.{is_awake, group_place}
 use Rattle.settle.specs.Scanning.{allowed_words, first_kind, first_from, Scan, scan, after, row_from, in_block, in_group, first_awake}
 use Rattle.settle.specs.Waking.{woken}
@@ -27,9 +27,9 @@ some_is e = cc
 
 module _ (h : Header) (p : List ℕ) where
   -- an allowed step, or none
-  data Found : Lowest → Type 0 where
-    found_at : {s : ℕ} {k : Kind} {a : Around} → allowed_words k h p s ≡ true → Found (At s k a)
-    found_none : Found Nothing
+  data Allowing : Found Lowest → Type 0 where
+    found_at : {x : Lowest} → allowed_words x.kind h p x.slot ≡ true → Allowing (Some x)
+    found_none : Allowing None
 
   kind_allowed : (ks : List Kind) (s : ℕ) (k : Kind) → first_kind ks h p s ≡ some k → allowed_words k h p s ≡ true
   unfolding first_kind
@@ -41,35 +41,35 @@ module _ (h : Header) (p : List ℕ) where
       go true f g rest = rw (← some_is g) f
       go false f g rest = rest g
 
-  from_found : (n s : ℕ) → Found (first_from n h p s)
+  from_found : (n s : ℕ) → Allowing (first_from n h p s)
   unfolding first_from
   from_found zero s = found_none
   from_found (suc n) s = go (first_kind kinds h p s) refl (from_found n (suc s))
     where
-      go : (o : Option Kind) → first_kind kinds h p s ≡ o → Found (first_from n h p (suc s)) → Found (elim o [ some k ↦ At s k (around_at p s) | none ↦ first_from n h p (suc s) ])
+      go : (o : Option Kind) → first_kind kinds h p s ≡ o → Allowing (first_from n h p (suc s)) → Allowing (elim o [ some k ↦ Some (lowest s k (around_at p s)) | none ↦ first_from n h p (suc s) ])
       go (some k) e rest = found_at (kind_allowed kinds s k e)
       go none e rest = rest
 
   abbrev FoundBy : Scan → Type 0
-  FoundBy r = Found r.found
+  FoundBy r = Allowing r.found
 
   row_found : (row : ℕ) (below : ℕ → List ℕ → Scan) → ((i : ℕ) (m : List ℕ) → FoundBy (below i m)) → (n i : ℕ) (m : List ℕ) → FoundBy (row_from row below n i m)
   unfolding row_from
   row_found row below f zero i m = found_none
   row_found row below f (suc n) i m = go (is_awake m (row + i)) (row_found row below f n (suc i))
     where
-      scans : (r : Scan) → ((q : List ℕ) → FoundBy (row_from row below n (suc i) q)) → (o : Lowest) → Found o → FoundBy (elim o [
-        | At s k a ↦ scan (At s k a) r.awake (1 + r.looks)
-        | Nothing ↦ after (1 + r.looks) (row_from row below n (suc i) (set r.awake (row + i) 0))
+      scans : (r : Scan) → ((q : List ℕ) → FoundBy (row_from row below n (suc i) q)) → (o : Found Lowest) → Allowing o → FoundBy (elim o [
+        | Some x ↦ scan (Some x) r.awake (1 + r.looks)
+        | None ↦ after (1 + r.looks) (row_from row below n (suc i) (set r.awake (row + i) 0))
       ])
-      scans r rest (At s k a) g = g
-      scans r rest Nothing g = rest _
+      scans r rest (Some x) g = g
+      scans r rest None g = rest _
 
       go : (b : Bool) → ((q : List ℕ) → FoundBy (row_from row below n (suc i) q)) → FoundBy (elim b [
         | false ↦ after 1 (row_from row below n (suc i) m)
         | true ↦ let r = below i m in elim r.found [
-          | At s k a ↦ scan (At s k a) r.awake (1 + r.looks)
-          | Nothing ↦ after (1 + r.looks) (row_from row below n (suc i) (set r.awake (row + i) 0))
+          | Some x ↦ scan (Some x) r.awake (1 + r.looks)
+          | None ↦ after (1 + r.looks) (row_from row below n (suc i) (set r.awake (row + i) 0))
         ]
       ])
       go true rest = scans (below i m) rest (below i m).found (f i m)
@@ -87,13 +87,13 @@ next_kept : (P Q : Pool) → next_pool P ≡ some Q → KeptTo P Q
 unfolding next_pool
 next_kept P Q e = go (scanned P).found (found_allowed P.header P.words P.awake) e
   where
-    go : (f : Lowest) → Found P.header P.words f
+    go : (f : Found Lowest) → Allowing P.header P.words f
         → ◌≡◌ {A = Option Pool} (elim f [
-          | At s k a ↦ some (pool_of (header_after k s P.header) (taken_words P.header.root P.words s k a) (woken P.header P.words s k a (scanned P).awake))
-          | Nothing ↦ none
+          | Some x ↦ some (pool_of (header_after x.kind x.slot P.header) (taken_words P.header.root P.words x.slot x.kind x.around) (woken P.header P.words x.slot x.kind x.around (scanned P).awake))
+          | None ↦ none
         ]) (some Q) → KeptTo P Q
-    go (At s k a) (found_at ok) same = rw (← some_is same) (kept_step P.header P.words s k a (allowed_slot P.header P.words s k ok).0)
-    go Nothing f same = let bad : ◌≡◌ {A = ℕ} 0 1 = cc in absurd (omega arith)
+    go (Some x) (found_at ok) same = rw (← some_is same) (kept_step P.header P.words x.slot x.kind x.around (allowed_slot P.header P.words x.slot x.kind ok).0)
+    go None f same = let bad : ◌≡◌ {A = ℕ} 0 1 = cc in absurd (omega arith)
 
 pools_kept : (b : ℕ) (P : Pool) → KeptTo P (last_of P (pools_after b P))
 unfolding pools_after last_of

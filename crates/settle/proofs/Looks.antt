@@ -34,15 +34,16 @@ use Rattle.kinds.specs.Around.{around_of, around_at}
 use Rattle.kinds.specs.Effects.{header_after}
 use Rattle.steps.specs.Steps.{taken_words}
 use Rattle.updates.proofs.SearchShows.{root_full}
-use Rattle.settle.specs.declared.Lowest.{Lowest}
-use Rattle.settle.specs.declared.Lowest.TheVariants.{At, Nothing}
+use Rattle.steps.specs.declared.Lowest.{Lowest}
+use Rattle.std.specs.Prelude.{Option as Found, Some, None}
 use Rattle.settle.specs.declared.Pair.{Pair}
 use Rattle.settle.specs.Awake.{block_size, group_size, block_of, most_blocks, most_groups, group_place, is_awake, wake_block, wake, all_awake, all_asleep}
 use Rattle.settle.specs.Scanning.{Scan, scan, after, row_from, in_block, blocks_in, in_group, first_awake}
 use Rattle.settle.specs.Waking.{woken_below, weight_after, kin_turns, wake_both, woken, woken_way}
 use Rattle.settle.specs.Settling.{Pool, pool_of, scanned}
 use Rattle.settle.specs.Looks.{wake_looks, looks_from, settle_looks, looks_once, looks_step, depths}
-use Rattle.settle.proofs.AllowedShows.{nothing_empty, lowest_of, first_shows}
+use Rattle.steps.proofs.AllowedShows.{lowest_of}
+use Rattle.settle.proofs.AllowedShows.{nothing_empty, first_shows}
 use Rattle.settle.proofs.Rows.{Cover, awake_finds}
 use Rattle.settle.proofs.Wakes.{Long, both_long}
 use Rattle.settle.proofs.KinShows.{hangs_held, hangs_slot, kin_short}
@@ -118,14 +119,14 @@ put_awake m i x row (suc n) = same_or_not row i
     (λ d. rw (put_other m i row x d) (omega (arith, put_awake m i x (suc row) n)))
 
 -- A scan that finds something may cost n more.
-unfoldable if_found : ℕ → Lowest → ℕ
-if_found n (At s k a) = n
-if_found n Nothing = 0
+unfoldable if_found : ℕ → Found Lowest → ℕ
+if_found n (Some x) = n
+if_found n None = 0
 
-found_most : (n : ℕ) (f : Lowest) → if_found n f ≤ n
+found_most : (n : ℕ) (f : Found Lowest) → if_found n f ≤ n
 unfolding if_found
-found_most n (At s k a) = omega arith
-found_most n Nothing = omega arith
+found_most n (Some x) = omega arith
+found_most n None = omega arith
 
 -- The scan r, from m on, puts to sleep only; what it looks at is paid by what is owed less after it, but for `base` looks, and `extra` where it
 -- finds a step.
@@ -146,15 +147,15 @@ module _ (row size most extra : ℕ) (below : ℕ → List ℕ → Scan) (owed :
     where
       scans : (r : Scan) → Costs owed size extra m r → is_awake m (row + i) ≡ true
           → ((q : List ℕ) → Costs row_owes n (size + extra) q (row_from row below n (suc i) q))
-          → (f : Lowest) → r.found ≡ f → Costs row_owes (suc n) (size + extra) m (elim f [
-            | At s k a ↦ scan (At s k a) r.awake (1 + r.looks)
-            | Nothing ↦ after (1 + r.looks) (row_from row below n (suc i) (set r.awake (row + i) 0))
+          → (f : Found Lowest) → r.found ≡ f → Costs row_owes (suc n) (size + extra) m (elim f [
+            | Some x ↦ scan (Some x) r.awake (1 + r.looks)
+            | None ↦ after (1 + r.looks) (row_from row below n (suc i) (set r.awake (row + i) 0))
           ])
-      scans r c e more (At s k a) is =
+      scans r c e more (Some x) is =
           let paid = rw (is, if_found) at c.paid in
           let fewer = mul-le-mul_left size (less_awake r.awake m c.less row most) in
           record { less = c.less; paid = omega arith }
-      scans r c e more Nothing is =
+      scans r c e more None is =
           let q = set r.awake (row + i) 0 in
           let rest = more q in
           let less : Less q m = λ j a. c.less j (put_less r.awake (row + i) j a) in
@@ -168,8 +169,8 @@ module _ (row size most extra : ℕ) (below : ℕ → List ℕ → Scan) (owed :
           → Costs row_owes (suc n) (size + extra) m (elim b [
             | false ↦ after 1 (row_from row below n (suc i) m)
             | true ↦ let r = below i m in elim r.found [
-              | At s k a ↦ scan (At s k a) r.awake (1 + r.looks)
-              | Nothing ↦ after (1 + r.looks) (row_from row below n (suc i) (set r.awake (row + i) 0))
+              | Some x ↦ scan (Some x) r.awake (1 + r.looks)
+              | None ↦ after (1 + r.looks) (row_from row below n (suc i) (set r.awake (row + i) 0))
             ]
           ])
       go true e more = scans (below i m) (costs i m (omega arith)) e more (below i m).found refl
@@ -320,8 +321,8 @@ module _ (S : State) (n : ℕ) (enough : 168 + looks_scan S.slots ≤ n) where
       go : (o : Option (ℕ × Kind)) → lowest_step S.slots 1 t ≡ o
           → ((Q : Pool) (u : Tree) → Stands S Q u → looks_from b Q ≤ bounded S.slots n Q.awake u (trees_after S.slots b u))
           → (scanned P).looks + elim (lowest_of p o) [
-            | At s k a ↦ wake_looks h p s k a + looks_from b (pool_of (header_after k s h) (taken_words h.root p s k a) (woken h p s k a m))
-            | Nothing ↦ 0
+            | Some x ↦ wake_looks h p x.slot x.kind x.around + looks_from b (pool_of (header_after x.kind x.slot h) (taken_words h.root p x.slot x.kind x.around) (woken h p x.slot x.kind x.around m))
+            | None ↦ 0
           ] ≤ bounded S.slots n P.awake t (elim (elim o as (λ i. Option Tree) [ some a ↦ some (stepped a.1 a.0 t) | none ↦ none ]) [
             | some u ↦ u ∷ trees_after S.slots b u
             | none ↦ []
@@ -354,7 +355,7 @@ module _ {h : Header} {p : List ℕ} {S : State} (sound : Sound S) (shows : Show
       first : (first_awake h p m).looks + owed S.slots (first_awake h p m).awake ≤ looks_scan S.slots + owed S.slots m
       first = rw (last_slot_is sound shows) at (scan_looks h p m)
 
-      nothing : (first_awake h p m).found ≡ Nothing
+      nothing : (first_awake h p m).found ≡ None
       nothing = awake_finds h p m covered ∙ nothing_empty sound shows e (last_slot p) 1
 
       go : (b : ℕ) → looks_from b (pool_of h p m) ≤ looks_scan S.slots + owed S.slots m

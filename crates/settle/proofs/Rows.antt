@@ -14,17 +14,17 @@ use Rattle.tree.proofs.Tests.{same_or_not}
 use Rattle.format.specs.declared.Header.{Header}
 use Rattle.format.specs.Words.{last_slot}
 use Rattle.kinds.specs.Around.{around_at}
-use Rattle.steps.specs.Steps.{inner_slot}
-use Rattle.settle.specs.declared.Lowest.{Lowest}
-use Rattle.settle.specs.declared.Lowest.TheVariants.{At, Nothing}
+use Rattle.steps.specs.Steps.{inner_slot, lowest}
+use Rattle.steps.specs.declared.Lowest.{Lowest}
+use Rattle.std.specs.Prelude.{Option as Found, Some, None}
 use Rattle.settle.specs.Awake.{block_size, group_size, block_of, most_blocks, most_groups, group_place, is_awake}
 use Rattle.settle.specs.Scanning.{allowed_words, first_kind, first_from, first_allowed, Scan, scan, after, row_from, in_block, blocks_in, in_group, first_awake}
 use Rattle.settle.proofs.Scans.{all_false}
 
 -- of two ranges, the first in which a step is found
-unfoldable or_else : Lowest → Lowest → Lowest
-or_else (At s k a) f = At s k a
-or_else Nothing f = f
+unfoldable or_else : Found Lowest → Found Lowest → Found Lowest
+or_else (Some x) f = Some x
+or_else None f = f
 
 -- the number of a block and of its group are those of a slot
 pub record Awake (m : List ℕ) (x : ℕ) : Type 0 where
@@ -69,19 +69,19 @@ module _ (h : Header) (p : List ℕ) where
   none_at s e j = let w = named_within (kind_number j) j (named_known j) in none_of 1 kinds kinds_numbered s e j w.0 (omega arith)
 
   -- A scan of a range finds nothing where nothing is allowed, and only there.
-  quiet_none : (n s : ℕ) → Quiet n s → first_from n h p s ≡ Nothing
+  quiet_none : (n s : ℕ) → Quiet n s → first_from n h p s ≡ None
   unfolding first_from
   quiet_none zero s q = refl
   quiet_none (suc n) s q =
       rw (all_false h p s kinds (λ k. q s k (omega arith) (omega arith)), first_from) (quiet_none n (suc s) (λ x k a b. q x k (omega arith) (omega arith)))
 
-  none_quiet : (n s : ℕ) → first_from n h p s ≡ Nothing → Quiet n s
+  none_quiet : (n s : ℕ) → first_from n h p s ≡ None → Quiet n s
   unfolding first_from
   none_quiet zero s e x k a b = absurd (omega arith)
   none_quiet (suc n) s e x k a b = go (first_kind kinds h p s) refl e (none_quiet n (suc s))
     where
-      go : (o : Option Kind) → first_kind kinds h p s ≡ o → ◌≡◌ {A = Lowest} (elim o [ some j ↦ At s j (around_at p s) | none ↦ first_from n h p (suc s) ]) Nothing
-          → (first_from n h p (suc s) ≡ Nothing → Quiet n (suc s)) → allowed_words k h p x ≡ false
+      go : (o : Option Kind) → first_kind kinds h p s ≡ o → ◌≡◌ {A = Found Lowest} (elim o [ some j ↦ Some (lowest s j (around_at p s)) | none ↦ first_from n h p (suc s) ]) None
+          → (first_from n h p (suc s) ≡ None → Quiet n (suc s)) → allowed_words k h p x ≡ false
       go (some j) f g rest = let bad : ◌≡◌ {A = ℕ} 0 1 = cc in absurd (omega arith)
       go none f g rest = same_or_not x s (λ i. rw i (none_at s f k)) (λ d. rest g x k (omega arith) (omega arith))
 
@@ -94,8 +94,8 @@ module _ (h : Header) (p : List ℕ) where
       same = omega arith
 
       go : (o : Option Kind) → first_from (m + n) h p (suc s) ≡ or_else (first_from m h p (suc s)) (first_from n h p (suc s + m))
-          → elim o [ some k ↦ At s k (around_at p s) | none ↦ first_from (m + n) h p (suc s) ]
-          ≡ or_else (elim o [ some k ↦ At s k (around_at p s) | none ↦ first_from m h p (suc s) ]) (first_from n h p (s + suc m))
+          → elim o [ some k ↦ Some (lowest s k (around_at p s)) | none ↦ first_from (m + n) h p (suc s) ]
+          ≡ or_else (elim o [ some k ↦ Some (lowest s k (around_at p s)) | none ↦ first_from m h p (suc s) ]) (first_from n h p (s + suc m))
       go (some k) rest = refl
       go none rest = rest ∙ ap (λ i. or_else (first_from m h p (suc s)) (first_from n h p i)) same
 
@@ -104,9 +104,9 @@ module _ (h : Header) (p : List ℕ) where
   unfolding or_else
   quiet_end m n s q = rw (from_append m n s, quiet_none n (s + m) q) (go (first_from m h p s))
     where
-      go : (f : Lowest) → or_else f Nothing ≡ f
-      go (At v k a) = refl
-      go Nothing = refl
+      go : (f : Found Lowest) → or_else f None ≡ f
+      go (Some x) = refl
+      go None = refl
 
   quiet_start : (m n s : ℕ) → Quiet m s → first_from (m + n) h p s ≡ first_from n h p (s + m)
   unfolding or_else
@@ -145,15 +145,15 @@ module _ (h : Header) (p : List ℕ) where
             go false f = refl
 
         scans : (r : Scan) → Finds size (size * i) r → ((q : List ℕ) → Cover q → Finds (n * size) (size * suc i) (row_from row below n (suc i) q))
-            → (f : Lowest) → r.found ≡ f → Finds (suc n * size) (size * i) (elim f [
-              | At s k a ↦ scan (At s k a) r.awake (1 + r.looks)
-              | Nothing ↦ after (1 + r.looks) (row_from row below n (suc i) (set r.awake (row + i) 0))
+            → (f : Found Lowest) → r.found ≡ f → Finds (suc n * size) (size * i) (elim f [
+              | Some x ↦ scan (Some x) r.awake (1 + r.looks)
+              | None ↦ after (1 + r.looks) (row_from row below n (suc i) (set r.awake (row + i) 0))
             ])
-        scans r f more (At s k a) e = record {
+        scans r f more (Some x) e = record {
           same = ap (λ g. or_else g (first_from (n * size) h p (size * i + size))) (sym e ∙ f.same) ∙ (sym (from_append size (n * size) (size * i)) ∙ ap (λ a. first_from a h p (size * i)) (sym parts));
           kept = f.kept;
         }
-        scans r f more Nothing e =
+        scans r f more None e =
             let q = none_quiet size (size * i) (sym f.same ∙ e) in
             rest q (more _ (sleeps r.awake i (omega arith) q f.kept)) (1 + r.looks)
 
@@ -161,8 +161,8 @@ module _ (h : Header) (p : List ℕ) where
             → Finds (suc n * size) (size * i) (elim b [
               | false ↦ after 1 (row_from row below n (suc i) m)
               | true ↦ let r = below i m in elim r.found [
-                | At s k a ↦ scan (At s k a) r.awake (1 + r.looks)
-                | Nothing ↦ after (1 + r.looks) (row_from row below n (suc i) (set r.awake (row + i) 0))
+                | Some x ↦ scan (Some x) r.awake (1 + r.looks)
+                | None ↦ after (1 + r.looks) (row_from row below n (suc i) (set r.awake (row + i) 0))
               ]
             ])
         go true e more = scans (below i m) (finds m i (omega arith) cover) more (below i m).found refl

@@ -1,39 +1,28 @@
 -- The scans for the first allowed step, over kinds, slots and rows of numbers, and the search for a slot's parent, turn by turn: what comes of
--- them from here is what comes from the next turn. Of the kinds n to 8 the code knows the numbers and crate tree's Codes the list;
--- `kinds_from` joins the two.
+-- them from here is what comes from the next turn.
 -- Assumes nothing.
-use Rattle.std.proofs.Common.{◌≡◌, ℕ, zero, suc, ◌+◌, ◌-◌, ◌*◌, ◌/◌, true, false, ◌≢◌, List, [], ◌∷◌, drop, set, sym, refl, ap, ◌∙◌, add-one, arith, eq-eqb, ne_eqb}
-use mathlib.Core.Option.{none, some}
+use Rattle.std.proofs.Common.{◌≡◌, ℕ, zero, suc, ◌+◌, ◌-◌, ◌*◌, ◌/◌, true, false, ◌≢◌, List, [], ◌∷◌, drop, set, sym, refl, ap, ◌∙◌, add-one, arith, eq-eqb, ne_eqb, ◌&&◌}
+use mathlib.Core.Option.{Option, none, some}
+use mathlib.Core.Bool.{Bool, and-true, and-false}
+use Rattle.std.specs.List.{find}
 use Rattle.tree.specs.declared.Kind.{Kind}
-use Rattle.tree.specs.declared.Named.TheVariants.{Known}
-use Rattle.tree.specs.Codes.{kinds, named}
-use Rattle.tree.proofs.KindNumbers.{kinds_from}
+use Rattle.tree.specs.Codes.{kinds}
 use Rattle.format.specs.declared.Slot.{Slot}
 use Rattle.format.specs.declared.Header.{Header}
 use Rattle.format.specs.Words.{slot_at, last_slot}
 use Rattle.kinds.specs.declared.Around.{Around}
 use Rattle.kinds.specs.Around.{around_of, around_at}
 use Rattle.updates.specs.Updating.{toward}
-use Rattle.steps.specs.Steps.{inner_slot, inner_at}
-use Rattle.settle.specs.declared.Lowest.TheVariants.{At, Nothing}
+use Rattle.steps.specs.Steps as around
+use Rattle.steps.specs.Steps.{inner_slot, inner_at, lowest, lowest_around}
+use Rattle.steps.proofs.Scan.{option_of}
+use Rattle.steps.specs.declared.Lowest.{Lowest}
+use Rattle.std.specs.Prelude.{Option as Found, Some, None, cond}
 use Rattle.settle.specs.Awake.{block_size, group_size, block_of, group_place, is_awake}
-use Rattle.settle.specs.Scanning.{allowed_around, allowed_words, first_kind, first_from, Scan, scan, after, row_from, in_block, blocks_in, in_group, first_awake}
+use Rattle.settle.specs.Scanning.{slot_counts, allowed_around, allowed_words, first_kind, first_from, Scan, scan, after, row_from, in_block, blocks_in, in_group, first_awake}
 use Rattle.settle.specs.Waking.{two, kin_from}
 
 module _ (h : Header) (p : List ℕ) (s : ℕ) where
-  pub kinds_here : (n : ℕ) (k : Kind) → named n ≡ Known k → allowed_words k h p s ≡ true → first_kind (drop (n - 1) kinds) h p s ≡ some k
-  unfolding first_kind
-  kinds_here n k e f = rw (kinds_from n k e, f, first_kind)
-
-  pub kinds_next : (n : ℕ) (k : Kind) → named n ≡ Known k → allowed_words k h p s ≡ false
-      → first_kind (drop (n + 1 - 1) kinds) h p s ≡ first_kind (drop (n - 1) kinds) h p s
-  unfolding first_kind
-  kinds_next n k e f = let same : n + 1 - 1 ≡ n = omega arith in rw (same, kinds_from n k e, f, first_kind)
-
-  pub kinds_end : (n : ℕ) → n ≡ 9 → first_kind (drop (n - 1) kinds) h p s ≡ none
-  unfolding first_kind
-  kinds_end n e = rw e
-
   -- where no kind is allowed none is found
   pub all_false : (ks : List Kind) → ((k : Kind) → allowed_words k h p s ≡ false) → first_kind ks h p s ≡ none
   unfolding first_kind
@@ -42,24 +31,61 @@ module _ (h : Header) (p : List ℕ) (s : ℕ) where
 
   -- what the code sees at slot s: its words c, and a around it
   module _ (c : Slot) (is : c ≡ slot_at p s) where
-    pub kinds_none : inner_slot p s c ≡ false → first_kind kinds h p s ≡ none
+    kinds_none : inner_slot p s c ≡ false → first_kind kinds h p s ≡ none
     unfolding allowed_words
     kinds_none e = all_false kinds (λ k. rw (rw is at e))
 
-    pub allowed_here : inner_slot p s c ≡ true → {a : Around} → a ≡ around_of p c → (k : Kind) → allowed_around k h p s a ≡ allowed_words k h p s
-    unfolding allowed_words
-    allowed_here i e k = let inner : inner_at p s ≡ true = rw is at i in rw (inner, ← is, ← e)
+    -- and at an inner node the kinds that are allowed are those that are allowed around it, where the slot counts
+    allowed_here : inner_slot p s c ≡ true → {a : Around} → a ≡ around_of p c → (k : Kind) → (around.allowed_around k h s a && slot_counts h p s) ≡ allowed_words k h p s
+    unfolding allowed_words allowed_around around.allowed_around
+    allowed_here i {a} e k =
+        let inner : inner_at p s ≡ true = rw is at i in
+        let same : a ≡ around_at p s = rw (e, is) in
+        rw (inner, same)
 
-module _ (h : Header) (p : List ℕ) (n m s : ℕ) where
-  pub slots_here : (k : Kind) {a : Around} → a ≡ around_at p s → n ≡ m + 1 → first_kind kinds h p s ≡ some k → first_from n h p s ≡ At s k a
-  unfolding first_from
-  slots_here k around e f = rw (e, add-one m, f, first_from, around)
+    module _ (n m : ℕ) (more : n ≡ m + 1) where
+      pub slots_bare : inner_slot p s c ≡ false → first_from n h p s ≡ first_from m h p (s + 1)
+      unfolding first_from
+      slots_bare i = rw (more, add-one m, kinds_none i, first_from, add-one s)
 
-  pub slots_next : n ≡ m + 1 → first_kind kinds h p s ≡ none → first_from n h p s ≡ first_from m h p (s + 1)
-  unfolding first_from
-  slots_next e f = rw (e, add-one m, f, first_from, add-one s)
+      module _ (i : inner_slot p s c ≡ true) {a : Around} (e : a ≡ around_of p c) where
+        counts_here : slot_counts h p s ≡ true → first_kind kinds h p s ≡ option_of (lowest_around h s a)
+        unfolding first_kind option_of lowest_around
+        counts_here t = go kinds
+          where
+            go : (ks : List Kind) → first_kind ks h p s ≡ option_of (find (λ k. around.allowed_around k h s a) ks)
+            go [] = refl
+            go (k ∷ ks) =
+                let allowed : around.allowed_around k h s a ≡ allowed_words k h p s = rw (t, and-true) at (allowed_here i e k) in
+                rw allowed (each (allowed_words k h p s) (find (λ j. around.allowed_around j h s a) ks) (go ks))
+              where
+                each : (b : Bool) {o : Option Kind} (q : Found Kind) → o ≡ option_of q → elim b [ true ↦ some k | false ↦ o ] ≡ option_of (cond b (Some k) q)
+                each true q f = refl
+                each false q f = f
 
-pub slots_end : (h : Header) (p : List ℕ) (n s : ℕ) → n ≡ 0 → first_from n h p s ≡ Nothing
+        pub slots_here : (k : Kind) → lowest_around h s a ≡ Some k → slot_counts h p s ≡ true → first_from n h p s ≡ Some (lowest s k a)
+        unfolding first_from option_of
+        slots_here k f t =
+            let here : first_kind kinds h p s ≡ some k = counts_here t ∙ ap option_of f in
+            let around : around_at p s ≡ a = rw (e, is) in
+            rw (more, add-one m, here, first_from, around)
+
+        pub slots_skipped : slot_counts h p s ≡ false → first_from n h p s ≡ first_from m h p (s + 1)
+        unfolding first_from
+        slots_skipped t =
+            let here : first_kind kinds h p s ≡ none = all_false kinds (λ k. sym (rw (t, and-false) at (allowed_here i e k))) in
+            rw (more, add-one m, here, first_from, add-one s)
+
+        -- no kind fits, or the slot does not count
+        pub slots_next : lowest_around h s a ≡ None → first_from n h p s ≡ first_from m h p (s + 1)
+        unfolding first_from option_of
+        slots_next f = go (slot_counts h p s) refl
+          where
+            go : (b : Bool) → slot_counts h p s ≡ b → first_from n h p s ≡ first_from m h p (s + 1)
+            go true t = let here : first_kind kinds h p s ≡ none = counts_here t ∙ ap option_of f in rw (more, add-one m, here, first_from, add-one s)
+            go false t = slots_skipped t
+
+pub slots_end : (h : Header) (p : List ℕ) (n s : ℕ) → n ≡ 0 → first_from n h p s ≡ None
 unfolding first_from
 slots_end h p n s e = rw e
 
@@ -69,17 +95,17 @@ module _ (row : ℕ) (below : ℕ → List ℕ → Scan) (n m i : ℕ) (q : List
   unfolding row_from
   row_asleep e f = rw (e, add-one m, f, row_from, add-one i)
 
-  pub row_found : n ≡ m + 1 → is_awake q (row + i) ≡ true → (s : ℕ) (k : Kind) (a : Around) → (below i q).found ≡ At s k a
-      → row_from row below n i q ≡ scan (At s k a) (below i q).awake (1 + (below i q).looks)
+  pub row_found : n ≡ m + 1 → is_awake q (row + i) ≡ true → (x : Lowest) → (below i q).found ≡ Some x
+      → row_from row below n i q ≡ scan (Some x) (below i q).awake (1 + (below i q).looks)
   unfolding row_from
-  row_found e f s k a g = rw (e, add-one m, f, row_from, g)
+  row_found e f x g = rw (e, add-one m, f, row_from, g)
 
-  pub row_nothing : n ≡ m + 1 → is_awake q (row + i) ≡ true → (below i q).found ≡ Nothing
+  pub row_nothing : n ≡ m + 1 → is_awake q (row + i) ≡ true → (below i q).found ≡ None
       → row_from row below n i q ≡ after (1 + (below i q).looks) (row_from row below m (i + 1) (set (below i q).awake (row + i) 0))
   unfolding row_from
   row_nothing e f g = rw (e, add-one m, f, row_from, g, add-one i)
 
-pub row_end : (row : ℕ) (below : ℕ → List ℕ → Scan) (n i : ℕ) (q : List ℕ) → n ≡ 0 → row_from row below n i q ≡ scan Nothing q 0
+pub row_end : (row : ℕ) (below : ℕ → List ℕ → Scan) (n i : ℕ) (q : List ℕ) → n ≡ 0 → row_from row below n i q ≡ scan None q 0
 unfolding row_from
 row_end row below n i q e = rw e
 
@@ -110,19 +136,19 @@ module _ (row : ℕ) (below : ℕ → List ℕ → Scan) (n m i : ℕ) (q : List
         let x = row_asleep row below n m i q e (rw place at f) in
         record { finds = sym (ap (λ (r : Scan). r.found) x) ∙ same.finds; leaves = sym (ap (λ (r : Scan). r.awake) x) ∙ same.leaves }
 
-    pub same_nothing : n ≡ m + 1 → is_awake q j ≡ true → (below i q).found ≡ Nothing → {q' : List ℕ} → q' ≡ set (below i q).awake j 0
+    pub same_nothing : n ≡ m + 1 → is_awake q j ≡ true → (below i q).found ≡ None → {q' : List ℕ} → q' ≡ set (below i q).awake j 0
         → Same (row_from row below m (i + 1) q') R
     same_nothing e f g z =
         let x = row_nothing row below n m i q e (rw place at f) g in
         rw (z, place) record { finds = sym (ap (λ (r : Scan). r.found) x) ∙ same.finds; leaves = sym (ap (λ (r : Scan). r.awake) x) ∙ same.leaves }
 
-    pub same_found : n ≡ m + 1 → is_awake q j ≡ true → (s : ℕ) (k : Kind) (a : Around) → (below i q).found ≡ At s k a
+    pub same_found : n ≡ m + 1 → is_awake q j ≡ true → (x : Lowest) → (below i q).found ≡ Some x
         → ((below i q).found ≡ R.found) × ((below i q).awake ≡ R.awake)
-    same_found e f s k a g =
-        let x = row_found row below n m i q e (rw place at f) s k a g in
-        (g ∙ (sym (ap (λ (r : Scan). r.found) x) ∙ same.finds), sym (ap (λ (r : Scan). r.awake) x) ∙ same.leaves)
+    same_found e f x g =
+        let y = row_found row below n m i q e (rw place at f) x g in
+        (g ∙ (sym (ap (λ (r : Scan). r.found) y) ∙ same.finds), sym (ap (λ (r : Scan). r.awake) y) ∙ same.leaves)
 
-  pub same_end : n ≡ 0 → (Nothing ≡ R.found) × (q ≡ R.awake)
+  pub same_end : n ≡ 0 → (None ≡ R.found) × (q ≡ R.awake)
   same_end e =
       let x = row_end row below n i q e in
       (sym (ap (λ (r : Scan). r.found) x) ∙ same.finds, sym (ap (λ (r : Scan). r.awake) x) ∙ same.leaves)

@@ -23,13 +23,14 @@ use Rattle.kinds.specs.Around.{around_at}
 use Rattle.kinds.specs.Effects.{header_after}
 use Rattle.kinds.proofs.EffectShows.{effect_shows}
 use Rattle.steps.specs.Steps.{taken_words}
-use Rattle.settle.specs.declared.Lowest.TheVariants.{At, Nothing}
+use Rattle.std.specs.Prelude.{Some, None}
 use Rattle.settle.specs.Awake.{group_size, block_of, most_blocks, most_groups, group_place, is_awake, all_awake}
 use Rattle.settle.specs.Waking.{woken}
 use Rattle.settle.specs.Settling.{Pool, pool_of, scanned, next_pool, pools_after, settle_from, settle_under, settle_answer, settle_words}
 use Rattle.settle.proofs.SettleTurns.{next_none, after_none}
 use Rattle.settle.proofs.HeaderKept.{settle_words_lem}
-use Rattle.settle.proofs.AllowedShows.{nothing_empty, lowest_of, first_shows}
+use Rattle.steps.proofs.AllowedShows.{lowest_of}
+use Rattle.settle.proofs.AllowedShows.{nothing_empty, first_shows}
 use Rattle.settle.proofs.Rows.{Cover, awake_finds, awake_kept, allowed_slot}
 use Rattle.settle.proofs.Wakes.{Long, scan_long}
 use Rattle.settle.proofs.WakeShows.{cover_covers, covers_cover, step_covers, woken_long}
@@ -80,8 +81,8 @@ module _ (S : State) where
 
       go : (o : Option (ℕ × Kind)) → lowest_step S.slots 1 t ≡ o → Next
           (elim (lowest_of P.words o) [
-            | At s k a ↦ some (pool_of (header_after k s P.header) (taken_words P.header.root P.words s k a) (woken P.header P.words s k a (scanned P).awake))
-            | Nothing ↦ none
+            | Some x ↦ some (pool_of (header_after x.kind x.slot P.header) (taken_words P.header.root P.words x.slot x.kind x.around) (woken P.header P.words x.slot x.kind x.around (scanned P).awake))
+            | None ↦ none
           ])
           (elim o [ some a ↦ some (stepped a.1 a.0 t) | none ↦ none ])
       go (some a) e = both (step_stands P t x a.0 a.1 e)

@@ -2,28 +2,26 @@
 -- start: the pools from there are n more, and the last one is the same. Assumes nothing.
 use Rattle.std.proofs.Common.{◌≡◌, ℕ, zero, suc, ◌+◌, ◌-◌, ◌<◌, List, [], ◌∷◌, length, sym, refl, ap, ◌∙◌, add-one, arith}
 use mathlib.Core.Option.{Option, none, some}
-use Rattle.tree.specs.declared.Kind.{Kind}
 use Rattle.tree.specs.declared.Answer.{Answer}
 use Rattle.tree.specs.declared.Answer.TheVariants.{Done, Spent}
 use Rattle.tree.specs.Settle.{last_of, settled}
 use Rattle.format.specs.declared.Header.{Header}
-use Rattle.kinds.specs.declared.Around.{Around}
 use Rattle.kinds.specs.Effects.{header_after}
 use Rattle.steps.specs.Steps.{taken_words}
-use Rattle.settle.specs.declared.Lowest.{Lowest}
-use Rattle.settle.specs.declared.Lowest.TheVariants.{At, Nothing}
+use Rattle.steps.specs.declared.Lowest.{Lowest}
+use Rattle.std.specs.Prelude.{Option as Found, Some, None}
 use Rattle.settle.specs.Waking.{woken}
 use Rattle.settle.specs.Settling.{Pool, pool_of, scanned, next_pool, pools_after, settle_from}
 
 module _ (P : Pool) where
-  pub next_none : (scanned P).found ≡ Nothing → next_pool P ≡ none
+  pub next_none : (scanned P).found ≡ None → next_pool P ≡ none
   unfolding next_pool
   next_none e = rw (e, next_pool)
 
-  next_some : (s : ℕ) (k : Kind) (a : Around) → (scanned P).found ≡ At s k a
-      → next_pool P ≡ some (pool_of (header_after k s P.header) (taken_words P.header.root P.words s k a) (woken P.header P.words s k a (scanned P).awake))
+  next_some : (x : Lowest) → (scanned P).found ≡ Some x
+      → next_pool P ≡ some (pool_of (header_after x.kind x.slot P.header) (taken_words P.header.root P.words x.slot x.kind x.around) (woken P.header P.words x.slot x.kind x.around (scanned P).awake))
   unfolding next_pool
-  next_some s k a e = rw (e, next_pool)
+  next_some x e = rw (e, next_pool)
 
   pub after_none : (b : ℕ) → next_pool P ≡ none → pools_after b P ≡ []
   unfolding pools_after
@@ -61,11 +59,11 @@ module _ (h : Header) (b : ℕ) (p₀ m₀ : List ℕ) where
   begin = let e : b - 0 ≡ b = omega arith in record { taken = rw e (omega arith); last = rw e }
 
   module _ (n : ℕ) (P : Pool) (t : Turn n P) where
-    pub turn : {f : Lowest} → f ≡ (scanned P).found → (s : ℕ) (k : Kind) (a : Around) → f ≡ At s k a → n < b
-        → {g : Header} {q m : List ℕ} → g ≡ header_after k s P.header → q ≡ taken_words P.header.root P.words s k a
-        → m ≡ woken P.header P.words s k a (scanned P).awake → Turn (n + 1) (pool_of g q m)
-    turn ef s k a e l {g} {q} {m} eg eq em =
-        let next : next_pool P ≡ some (pool_of g q m) = rw (eg, eq, em) (next_some P s k a (sym ef ∙ e)) in
+    pub turn : {f : Found Lowest} → f ≡ (scanned P).found → (x : Lowest) → f ≡ Some x → n < b
+        → {g : Header} {q m : List ℕ} → g ≡ header_after x.kind x.slot P.header → q ≡ taken_words P.header.root P.words x.slot x.kind x.around
+        → m ≡ woken P.header P.words x.slot x.kind x.around (scanned P).awake → Turn (n + 1) (pool_of g q m)
+    turn ef x e l {g} {q} {m} eg eq em =
+        let next : next_pool P ≡ some (pool_of g q m) = rw (eg, eq, em) (next_some P x (sym ef ∙ e)) in
         let r = after_some P (b - n) (b - (n + 1)) (pool_of g q m) (omega arith) next in
         record { taken = omega (arith, t.taken, ap length r); last = t.last ∙ last_some P (pool_of g q m) r }
 
@@ -78,14 +76,14 @@ module _ (h : Header) (b : ℕ) (p₀ m₀ : List ℕ) where
         let y : last_of (pool_of h p₀ m₀) (pools_after b (pool_of h p₀ m₀)) ≡ P = t.last ∙ last_none P g in
         record { answer = rw (x, y, e); header = ap (λ (Q : Pool). Q.header) (sym y); words = ap (λ (Q : Pool). Q.words) (sym y) }
 
-    pub done : {f : Lowest} → f ≡ (scanned P).found → f ≡ Nothing
+    pub done : {f : Found Lowest} → f ≡ (scanned P).found → f ≡ None
         → Ended (Done n) P
     unfolding settled
     done ef e =
         let x = next_none P (sym ef ∙ e) in
         settles (after_none P (b - n) x) none x
 
-    pub spent : {f : Lowest} → f ≡ (scanned P).found → (s : ℕ) (k : Kind) (a : Around) → f ≡ At s k a → n ≡ b
+    pub spent : {f : Found Lowest} → f ≡ (scanned P).found → (x : Lowest) → f ≡ Some x → n ≡ b
         → Ended (Spent n) P
     unfolding settled
-    spent ef s k a e z = settles (after_spent P (b - n) (omega arith)) _ (next_some P s k a (sym ef ∙ e))
+    spent ef x e z = settles (after_spent P (b - n) (omega arith)) _ (next_some P x (sym ef ∙ e))

@@ -7,8 +7,8 @@ use lib.ListN.{get_or-eq_default}
 use Rattle.tree.specs.Codes.{most_slots}
 use Rattle.tree.proofs.Tests.{same_or_not}
 use Rattle.format.specs.declared.Header.{Header}
-use Rattle.settle.specs.declared.Lowest.{Lowest}
-use Rattle.settle.specs.declared.Lowest.TheVariants.{At, Nothing}
+use Rattle.steps.specs.declared.Lowest.{Lowest}
+use Rattle.std.specs.Prelude.{Option as Found, Some, None}
 use Rattle.settle.specs.declared.Pair.{Pair}
 use Rattle.settle.specs.Awake.{group_size, block_of, most_blocks, most_groups, group_place, is_awake, wake_block, wake}
 use Rattle.settle.specs.Scanning.{Scan, scan, after, row_from, in_block, in_group, first_awake}
@@ -85,19 +85,19 @@ unfolding row_from
 row_long row below f zero i m l = l
 row_long row below f (suc n) i m l = go (is_awake m (row + i)) (row_long row below f n (suc i))
   where
-    scans : (r : Scan) → Long r.awake → ((q : List ℕ) → Long q → Long (row_from row below n (suc i) q).awake) → (o : Lowest)
+    scans : (r : Scan) → Long r.awake → ((q : List ℕ) → Long q → Long (row_from row below n (suc i) q).awake) → (o : Found Lowest)
         → LongAfter (elim o [
-          | At s k a ↦ scan (At s k a) r.awake (1 + r.looks)
-          | Nothing ↦ after (1 + r.looks) (row_from row below n (suc i) (set r.awake (row + i) 0))
+          | Some x ↦ scan (Some x) r.awake (1 + r.looks)
+          | None ↦ after (1 + r.looks) (row_from row below n (suc i) (set r.awake (row + i) 0))
         ])
-    scans r k rest (At s j a) = k
-    scans r k rest Nothing = rest _ (length-set r.awake (row + i) 0 ∙ k)
+    scans r k rest (Some x) = k
+    scans r k rest None = rest _ (length-set r.awake (row + i) 0 ∙ k)
 
     go : (b : Bool) → ((q : List ℕ) → Long q → Long (row_from row below n (suc i) q).awake) → LongAfter (elim b [
       | false ↦ after 1 (row_from row below n (suc i) m)
       | true ↦ let r = below i m in elim r.found [
-        | At s k a ↦ scan (At s k a) r.awake (1 + r.looks)
-        | Nothing ↦ after (1 + r.looks) (row_from row below n (suc i) (set r.awake (row + i) 0))
+        | Some x ↦ scan (Some x) r.awake (1 + r.looks)
+        | None ↦ after (1 + r.looks) (row_from row below n (suc i) (set r.awake (row + i) 0))
       ]
     ])
     go true rest = scans (below i m) (f i m l) rest (below i m).found

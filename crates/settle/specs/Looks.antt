@@ -9,7 +9,7 @@ use Rattle.format.specs.Words.{last_slot}
 use Rattle.kinds.specs.declared.Around.{Around}
 use Rattle.kinds.specs.Effects.{header_after}
 use Rattle.steps.specs.Steps.{taken_words}
-use Rattle.settle.specs.declared.Lowest.TheVariants.{At, Nothing}
+use Rattle.std.specs.Prelude.{Some, None}
 use Rattle.settle.specs.Awake.{all_awake}
 use Rattle.settle.specs.Waking.{weight_after, kin_turns, woken}
 use Rattle.settle.specs.Settling.{Pool, pool_of, scanned}
@@ -23,8 +23,8 @@ wake_looks h p s k a = 8 + elim (parent_sees a.v.weight (weight_after k a.v.weig
 unfoldable pub looks_from : ℕ → Pool → ℕ
 looks_from zero P = (scanned P).looks
 looks_from (suc budget) P = let h = P.header in let p = P.words in let r = scanned P in r.looks + elim r.found [
-  | At s k a ↦ wake_looks h p s k a + looks_from budget (pool_of (header_after k s h) (taken_words h.root p s k a) (woken h p s k a r.awake))
-  | Nothing ↦ 0
+  | Some x ↦ wake_looks h p x.slot x.kind x.around + looks_from budget (pool_of (header_after x.kind x.slot h) (taken_words h.root p x.slot x.kind x.around) (woken h p x.slot x.kind x.around r.awake))
+  | None ↦ 0
 ]
 
 abbrev pub settle_looks : List ℕ → Header → ℕ → ℕ

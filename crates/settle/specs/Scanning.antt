@@ -9,9 +9,9 @@ use Rattle.format.specs.Words.{last_slot}
 use Rattle.kinds.specs.declared.Around.{Around}
 use Rattle.kinds.specs.Around.{around_at}
 use Rattle.kinds.specs.Conditions.{fits}
-use Rattle.steps.specs.Steps.{inner_at, limit_at}
-use Rattle.settle.specs.declared.Lowest.{Lowest}
-use Rattle.settle.specs.declared.Lowest.TheVariants.{At, Nothing}
+use Rattle.steps.specs.Steps.{inner_at, limit_at, lowest}
+use Rattle.steps.specs.declared.Lowest.{Lowest}
+use Rattle.std.specs.Prelude.{Option as Found, Some, None}
 use Rattle.settle.specs.Awake.{block_size, group_size, block_of, group_place, is_awake}
 
 -- Whether a slot counts, asked last, where a kind would be accepted: every one does.
@@ -31,22 +31,22 @@ first_kind [] h p s = none
 first_kind (k ∷ ks) h p s = elim (allowed_words k h p s) [ true ↦ some k | false ↦ first_kind ks h p s ]
 
 -- RULES 5.2: "the lowest slot with an allowed kind, and there the lowest kind", among the n slots from s on, with what stands around it
-unfoldable pub first_from : ℕ → Header → List ℕ → ℕ → Lowest
-first_from zero h p s = Nothing
-first_from (suc n) h p s = elim (first_kind kinds h p s) [ some k ↦ At s k (around_at p s) | none ↦ first_from n h p (suc s) ]
+unfoldable pub first_from : ℕ → Header → List ℕ → ℕ → Found Lowest
+first_from zero h p s = None
+first_from (suc n) h p s = elim (first_kind kinds h p s) [ some k ↦ Some (lowest s k (around_at p s)) | none ↦ first_from n h p (suc s) ]
 
 -- among all slots
-abbrev pub first_allowed : Header → List ℕ → Lowest
+abbrev pub first_allowed : Header → List ℕ → Found Lowest
 first_allowed h p = first_from (last_slot p) h p 1
 
 -- What a scan finds, what is awake after it, and how many slots and numbers of blocks and groups it looks at. A block that is looked at
 -- counts with all its slots.
 pub record Scan : Type 0 where
-  pub found : Lowest
+  pub found : Found Lowest
   pub awake : List ℕ
   pub looks : ℕ
 
-abbrev pub scan : Lowest → List ℕ → ℕ → Scan
+abbrev pub scan : Found Lowest → List ℕ → ℕ → Scan
 scan f m n = record { found = f; awake = m; looks = n }
 
 -- the same after n more looks
@@ -56,12 +56,12 @@ after n r = scan r.found r.awake (n + r.looks)
 -- A row of n numbers from i on, the first of which stands at the place `row + i`; `below i` scans what the number i speaks for. What is asleep is
 -- passed over, and what allows nothing falls asleep.
 unfoldable pub row_from : (row : ℕ) → (ℕ → List ℕ → Scan) → (n i : ℕ) → List ℕ → Scan
-row_from row below zero i m = scan Nothing m 0
+row_from row below zero i m = scan None m 0
 row_from row below (suc n) i m = elim (is_awake m (row + i)) [
   | false ↦ after 1 (row_from row below n (suc i) m)
   | true ↦ let r = below i m in elim r.found [
-    | At s k a ↦ scan (At s k a) r.awake (1 + r.looks)
-    | Nothing ↦ after (1 + r.looks) (row_from row below n (suc i) (slice_set r.awake (row + i) 0))
+    | Some x ↦ scan (Some x) r.awake (1 + r.looks)
+    | None ↦ after (1 + r.looks) (row_from row below n (suc i) (slice_set r.awake (row + i) 0))
   ]
 ]
 

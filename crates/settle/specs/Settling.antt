@@ -9,7 +9,7 @@ use Rattle.format.specs.Words.{header_of}
 use Rattle.format.specs.Performing.{Written, written}
 use Rattle.kinds.specs.Effects.{header_after}
 use Rattle.steps.specs.Steps.{taken_words, level_written}
-use Rattle.settle.specs.declared.Lowest.TheVariants.{At, Nothing}
+use Rattle.std.specs.Prelude.{Some, None}
 use Rattle.settle.specs.Awake.{all_awake, all_asleep}
 use Rattle.settle.specs.Scanning.{Scan, first_awake}
 use Rattle.settle.specs.Waking.{woken, woken_way}
@@ -28,8 +28,8 @@ scanned P = first_awake P.header P.words P.awake
 
 unfoldable pub next_pool : Pool → Option Pool
 next_pool P = let h = P.header in let p = P.words in let r = scanned P in elim r.found [
-  | At s k a ↦ some (pool_of (header_after k s h) (taken_words h.root p s k a) (woken h p s k a r.awake))
-  | Nothing ↦ none
+  | Some x ↦ some (pool_of (header_after x.kind x.slot h) (taken_words h.root p x.slot x.kind x.around) (woken h p x.slot x.kind x.around r.awake))
+  | None ↦ none
 ]
 
 -- RULES 5.2 and 5.3: "Settle repeats [..] until none is left or the budget is spent": the pools after the first.

@@ -3,18 +3,18 @@
 // none is allowed is asleep. Every function is total: on words that show no State it ends too, and its contract says what it does there.
 #![tactic(auto)]
 
-ghost use Rattle.std.specs.Prelude.{◌≡◌, suc, ◌-◌, ◌≤◌, min, slice_set};
+ghost use Rattle.std.specs.Prelude.{◌≡◌, suc, ◌-◌, ◌≤◌, slice_set};
 ghost use Rattle.tree.specs.Sights.{parent_sees, grand_sees};
 ghost use Rattle.settle.specs.Awake.{is_awake, wake, most_groups};
-ghost use Rattle.settle.specs.Scanning.{slot_counts, allowed_around, first_from, in_group, first_awake};
+ghost use Rattle.settle.specs.Scanning.{slot_counts, first_from, in_group, first_awake};
 ghost use Rattle.settle.specs.Waking.{two, woken_below, weight_after, kin_of, woken_above, wake_both, woken, woken_way};
 ghost use Rattle.settle.specs.Settling.{settle_from, settle_under, settled_after, settle_answer, settle_words};
 
 use format::Header;
-use kinds::{Around, fits, look};
-use slots::{get_header, get_slot, last_slot, one_less, put_level};
-use steps::{at_limit, is_inner, take_step};
-use tree::{Answer, Kind, Named};
+use kinds::{Around, look};
+use slots::{get_header, get_slot, last_slot, put_level};
+use steps::{Lowest, is_inner, lowest_around, take_step};
+use tree::{Answer, Kind};
 use updates::{descend, toward};
 
 // The slots of a block.
@@ -90,80 +90,50 @@ fn slot_counts(pool: &[u32], h: Header, s: u32) -> bool
     true
 }
 
-// "An allowed step is a slot and kind that would be accepted": here at an inner node s, around which a stands. The kind is asked first.
-#[tactic(auto, unfolding(crate::specs::Scanning::allowed_around))]
-fn allowed(pool: &[u32], h: Header, s: u32, kind: Kind, a: Around) -> bool
-    ensures { result ≡ allowed_around kind h pool.now s a }
-{
-    if !fits(kind, a) {
-        return false;
-    }
-    if at_limit(h, s, kind) {
-        return false;
-    }
-    slot_counts(pool, h, s)
-}
-
-// A slot, the lowest kind that is allowed there, and what was read around it, so that to take the step reads nothing.
-#[derive(Clone, Copy)]
-pub enum Lowest {
-    At(u32, Kind, Around),
-    Nothing,
-}
-
-// "the lowest slot with an allowed kind, and there the lowest kind", of the slots from `from` to below `to`.
-#[tactic(auto, using(tree::proofs::KindNumbers::not_unknown, crate::proofs::Scans::kinds_here, crate::proofs::Scans::kinds_next, crate::proofs::Scans::kinds_end, crate::proofs::Scans::kinds_none, crate::proofs::Scans::allowed_here, crate::proofs::Scans::slots_here, crate::proofs::Scans::slots_next, crate::proofs::Scans::slots_end))]
-fn first_among(pool: &[u32], h: Header, from: u32, to: u32) -> Lowest
+// "the lowest slot with an allowed kind, and there the lowest kind", of the slots from `from` to below `to`. Steps' scan goes over all slots, where
+// every one counts.
+#[tactic(auto, using(crate::proofs::Scans::slots_bare, crate::proofs::Scans::slots_here, crate::proofs::Scans::slots_next, crate::proofs::Scans::slots_skipped, crate::proofs::Scans::slots_end))]
+fn first_among(pool: &[u32], h: Header, from: u32, to: u32) -> Option<Lowest>
     ensures { result ≡ first_from (to - from) h pool.now from }
 {
-    let mut found = Lowest::Nothing;
-    'scan: for s in from..to {
-        let v = get_slot(pool, s);
-        if is_inner(pool, s, v) {
-            let a = look(pool, v);
-            for n in Kind::BLACKEN..=Kind::LIGHTEN_RIGHT {
-                if let Named::Known(k) = Kind::named(n) {
-                    if allowed(pool, h, s, k, a) {
-                        found = Lowest::At(s, k, a);
-                        break 'scan;
-                    }
+    for slot in from..to {
+        let v = get_slot(pool, slot);
+        if is_inner(pool, slot, v) {
+            let around = look(pool, v);
+            if let Some(kind) = lowest_around(h, slot, around) {
+                if slot_counts(pool, h, slot) {
+                    return Some(Lowest { slot, kind, around });
                 }
             }
         }
     }
-    found
-}
-
-fn smaller(a: u32, b: u32) -> u32
-    ensures { result ≡ min a b }
-{
-    if a <= b { a } else { b }
+    None
 }
 
 // The same of the blocks of a group that are awake, up to that of the last slot. One that allows nothing falls asleep.
 #[tactic(auto, using(crate::proofs::Scans::same_asleep, crate::proofs::Scans::same_nothing, crate::proofs::Scans::same_found, crate::proofs::Scans::same_end, crate::proofs::Scans::block_found, crate::proofs::Scans::block_leaves, crate::proofs::Scans::group_begins))]
-fn first_in_group(pool: &[u32], awake: &mut [u8], h: Header, g: u32) -> Lowest
+fn first_in_group(pool: &[u32], awake: &mut [u8], h: Header, g: u32) -> Option<Lowest>
     requires { suc g ≤ most_groups }
     ensures found { result ≡ (in_group h pool.now g awake.old).found }
     ensures awake { awake.new ≡ (in_group h pool.now g awake.old).awake }
 {
     let first = GROUP * g;
-    let end = smaller(first + GROUP, last_slot(pool) / BLOCK + 1);
+    let end = (first + GROUP).min(last_slot(pool) / BLOCK + 1);
     for b in first..end {
         if is_awake(awake, b as usize) {
             let found = first_among(pool, h, BLOCK * b, BLOCK * b + BLOCK);
-            if let Lowest::At(_, _, _) = found {
+            if let Some(_) = found {
                 return found;
             }
             put_number(awake, b as usize, ASLEEP);
         }
     }
-    Lowest::Nothing
+    None
 }
 
 // The same of the groups that are awake.
 #[tactic(auto, using(crate::proofs::Scans::same_asleep, crate::proofs::Scans::same_nothing, crate::proofs::Scans::same_found, crate::proofs::Scans::same_end, crate::proofs::Scans::groups_begin))]
-fn first_awake(pool: &[u32], awake: &mut [u8], h: Header) -> Lowest
+fn first_awake(pool: &[u32], awake: &mut [u8], h: Header) -> Option<Lowest>
     ensures found { result ≡ (first_awake h pool.now awake.old).found }
     ensures awake { awake.new ≡ (first_awake h pool.now awake.old).awake }
 {
@@ -171,13 +141,13 @@ fn first_awake(pool: &[u32], awake: &mut [u8], h: Header) -> Lowest
     for g in 0..=last {
         if is_awake(awake, BLOCKS + g as usize) {
             let found = first_in_group(pool, awake, h, g);
-            if let Lowest::At(_, _, _) = found {
+            if let Some(_) = found {
                 return found;
             }
             put_number(awake, BLOCKS + g as usize, ASLEEP);
         }
     }
-    Lowest::Nothing
+    None
 }
 
 // The slots below v that a kind can wake: those that it turns, and of kind 1 both children.
@@ -203,14 +173,9 @@ fn weight_after(kind: Kind, w: u32) -> u32
     ensures { result ≡ weight_after kind w }
 {
     match kind {
-        Kind::Blacken => one_less(w),
-        Kind::SingleLeft => w,
-        Kind::SingleRight => w,
-        Kind::DoubleLeft => w,
-        Kind::DoubleRight => w,
-        Kind::Lighten => std::num::wrapping_add_u32(w, 1),
-        Kind::LightenLeft => w,
-        Kind::LightenRight => w,
+        Kind::Blacken => w.saturating_sub(1),
+        Kind::Lighten => w.wrapping_add(1),
+        _ => w,
     }
 }
 
@@ -238,15 +203,13 @@ fn kin_of(pool: &[u32], root: u32, key: u32, s: u32) -> Pair
     let mut grand: u32 = 0;
     let mut parent: u32 = 0;
     let mut v = root;
-    let mut left = last_slot(pool);
-    while 0 < left {
+    for _ in 0..last_slot(pool) {
         if v == s {
             return two(parent, grand);
         }
         grand = parent;
         parent = v;
         v = toward(get_slot(pool, v), key);
-        left -= 1;
     }
     two(parent, grand)
 }
@@ -288,12 +251,12 @@ fn settle_from(pool: &mut [u32], awake: &mut [u8], h: &mut Header, budget: u32) 
     ensures pool { pool.new ≡ (settle_from awake.old pool.old h.old budget).words }
 {
     let mut taken: u32 = 0;
-    while let Lowest::At(s, k, a) = first_awake(pool, awake, *h) {
+    while let Some(step) = first_awake(pool, awake, *h) {
         if taken == budget {
             return Answer::Spent(taken);
         }
-        wake_around(pool, awake, *h, s, k, a);
-        take_step(pool, h, s, k, a);
+        wake_around(pool, awake, *h, step.slot, step.kind, step.around);
+        take_step(pool, h, step.slot, step.kind, step.around);
         taken += 1;
     }
     Answer::Done(taken)

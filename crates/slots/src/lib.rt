@@ -17,9 +17,10 @@ pub const FREE_WEIGHT: u32 = 4294967295;
 pub fn word(pool: &[u32], i: usize) -> u32
     ensures { result ≡ get_or pool.now i 0 }
 {
-    if i < pool.len() { pool[i] } else { 0 }
+    pool.get(i).copied().unwrap_or(0)
 }
 
+// By its index: what a slice is after a write through `get_mut` is not known here.
 pub fn put_word(pool: &mut [u32], i: usize, x: u32)
     ensures { pool.new ≡ set pool.old i x }
 {
@@ -28,18 +29,18 @@ pub fn put_word(pool: &mut [u32], i: usize, x: u32)
     }
 }
 
-// The words of slot s. Where they lie in the pool, one test serves all four.
+// The words of slot s. Where all four lie in the pool one test serves them; with a test for each a slot took twice the time.
 #[tactic(auto, unfolding(format::specs::Words::slot_at))]
 pub fn get_slot(pool: &[u32], s: u32) -> Slot
     ensures { result ≡ slot_at pool.now s }
 {
     let i = SLOT_WORDS * (s as usize);
-    if i + 3 < pool.len() {
+    if let Some([key, left, right, weight]) = pool.get(i..i + SLOT_WORDS) {
         Slot {
-            key: pool[i],
-            left: pool[i + 1],
-            right: pool[i + 2],
-            weight: pool[i + 3],
+            key: *key,
+            left: *left,
+            right: *right,
+            weight: *weight,
         }
     } else {
         Slot {
@@ -51,12 +52,13 @@ pub fn get_slot(pool: &[u32], s: u32) -> Slot
     }
 }
 
+// Written as it is read: after a `get_slot` of the same slot the test is made once.
 #[tactic(auto, unfolding(format::specs::Words::put_slot))]
 pub fn put_slot(pool: &mut [u32], s: u32, c: Slot)
     ensures { pool.new ≡ put_slot pool.old s c }
 {
     let i = SLOT_WORDS * (s as usize);
-    if i + 3 < pool.len() {
+    if i + SLOT_WORDS <= pool.len() {
         pool[i] = c.key;
         pool[i + 1] = c.left;
         pool[i + 2] = c.right;
@@ -131,60 +133,45 @@ pub fn put_level(pool: &mut [u32], level: u32)
 pub fn slots_in(pool: &[u32]) -> usize
     ensures { result ≡ slots_in pool.now }
 {
-    let parts = pool.len() / SLOT_WORDS;
-    if parts == 0 { 0 } else { parts - 1 }
+    (pool.len() / SLOT_WORDS).saturating_sub(1)
 }
 
 // The last slot: C, and no more than MOST_SLOTS of a pool that is longer than one may be.
 pub fn last_slot(pool: &[u32]) -> u32
     ensures { result ≡ last_slot pool.now }
 {
-    let c = slots_in(pool);
-    if c <= MOST_SLOTS as usize {
-        c as u32
-    } else {
-        MOST_SLOTS
-    }
+    slots_in(pool).min(MOST_SLOTS as usize) as u32
 }
 
 // 01: "its length is 4 + 4C"; 02 (viii): "Raise C to 16,383. [..] Code 1 follows the new limit."
-#[tactic(auto, using(format::proofs::RulesSlots::length_other, format::proofs::RulesSlots::length_none, format::proofs::RulesSlots::length_some), unfolding(format::specs::Words::slots_in))]
+#[tactic(auto, unfolding(format::specs::Words::length_good, format::specs::Words::slots_in))]
 pub fn length_good(pool: &[u32]) -> bool
     ensures { result ≡ length_good pool.now }
 {
     let c = slots_in(pool);
-    if pool.len() != SLOT_WORDS + SLOT_WORDS * c {
-        return false;
-    }
-    if c < 1 {
-        return false;
-    }
-    c <= MOST_SLOTS as usize
+    pool.len() == SLOT_WORDS + SLOT_WORDS * c && (1..=MOST_SLOTS as usize).contains(&c)
 }
 
 // 01: "Slots are numbered from 1; 0 is no slot."
-#[tactic(auto, using(format::proofs::RulesSlots::slot_zero, format::proofs::RulesSlots::slot_from_one))]
+#[tactic(auto, unfolding(format::specs::Audit::is_slot))]
 pub fn is_slot(pool: &[u32], s: u32) -> bool
     ensures { result ≡ is_slot pool.now s }
 {
-    if s < 1 {
-        return false;
-    }
-    s as usize <= slots_in(pool)
+    1 <= s && s as usize <= slots_in(pool)
 }
 
 // A weight or a count that falls by 1; 0 stays.
 pub fn one_less(n: u32) -> u32
     ensures { result ≡ pred n }
 {
-    if n == 0 { 0 } else { n - 1 }
+    n.saturating_sub(1)
 }
 
 // n less `by`; it falls to 0 and no further.
 pub fn less_by(n: u32, by: u32) -> u32
     ensures { result ≡ n - by }
 {
-    if n < by { 0 } else { n - by }
+    n.saturating_sub(by)
 }
 
 pub fn free_slot(next: u32) -> Slot

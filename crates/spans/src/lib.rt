@@ -16,7 +16,7 @@ use slots::{get_header, get_slot, last_slot, put_header, slots_in};
 use tree::Refusal;
 use updates::{delete_under, descend};
 
-// Where a search is, and the right child at its last turn to the left, 0 before the first.
+// Where a search is, and the right child at its last turn to the left, 0 before the first. 01: "0 is no slot", so no Option is needed.
 #[derive(Clone, Copy)]
 struct Turned {
     slot: u32,

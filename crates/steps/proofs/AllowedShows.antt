@@ -32,8 +32,8 @@ use Rattle.kinds.specs.Around.{around_at}
 use Rattle.kinds.specs.Conditions.{fits}
 use Rattle.kinds.proofs.ConditionShows.{condition_shows}
 use Rattle.steps.specs.declared.Lowest.{Lowest}
-use Rattle.steps.specs.declared.Lowest.TheVariants.{At, Nothing}
-use Rattle.steps.specs.Steps.{has_children, inner_slot, inner_at, limit_at, allowed_around, allowed_words, first_kind, first_from, first_allowed}
+use Rattle.std.specs.Prelude.{Option as Found, Some, None}
+use Rattle.steps.specs.Steps.{lowest, has_children, inner_slot, inner_at, limit_at, allowed_around, allowed_words, first_kind, first_from, first_allowed}
 use Rattle.steps.proofs.LevelShows.{children_held, limit_shows}
 
 -- "A free slot is 0, next free slot, 0, 4,294,967,295": it has no children.
@@ -62,9 +62,9 @@ module _ {h : Header} {p : List ℕ} {S : State} (sound : Sound S) (shows : Show
   inner_empty e = inner_absent (rw e)
 
 -- the lowest step, as the code says it: with what stands around it
-unfoldable pub lowest_of : List ℕ → Option (ℕ × Kind) → Lowest
-lowest_of p (some a) = At a.0 a.1 (around_at p a.0)
-lowest_of p none = Nothing
+unfoldable pub lowest_of : List ℕ → Option (ℕ × Kind) → Found Lowest
+lowest_of p (some a) = Some (lowest a.0 a.1 (around_at p a.0))
+lowest_of p none = None
 
 module _ (S : State) (t : Tree) (sound : Sound S) (e : S.top ≡ full t) {h : Header} (p : List ℕ) (shows : Shows h p S) where
   pub inner_shows : (s : ℕ) → inner_at p s ≡ inner_in s 1 t
@@ -110,7 +110,7 @@ module _ (S : State) (t : Tree) (sound : Sound S) (e : S.top ≡ full t) {h : He
   from_shows (suc n) s = rw (kind_shows kinds s, first_from) (go (lowest_kind kinds s t) (from_shows n (suc s)))
     where
       go : (o : Option Kind) → first_from n h p (suc s) ≡ lowest_of p (lowest_step n (suc s) t)
-          → elim o [ some k ↦ At s k (around_at p s) | none ↦ first_from n h p (suc s) ] ≡ lowest_of p (elim o [ some k ↦ some (s, k) | none ↦ lowest_step n (suc s) t ])
+          → elim o [ some k ↦ Some (lowest s k (around_at p s)) | none ↦ first_from n h p (suc s) ] ≡ lowest_of p (elim o [ some k ↦ some (s, k) | none ↦ lowest_step n (suc s) t ])
       go (some k) rest = refl
       go none rest = rest
 

@@ -10,8 +10,6 @@ use native.Mathlib.Omega.{arith}
 use borrow.Author.Tests.{leb-true}
 use Prim.Native.Nat.{ℕ, zero, suc, ◌≤◌}
 use Rattle.tree.specs.declared.Kind.{Kind}
-use Rattle.tree.specs.declared.Named.{Named}
-use Rattle.tree.specs.declared.Named.TheVariants.{Known, Unknown}
 use Rattle.tree.specs.declared.Refusal.TheVariants.{NoInnerNode, ConditionFalse, LevelLimit}
 use Rattle.tree.specs.declared.Answer.TheVariants.{Done, Refused}
 use Rattle.tree.specs.Codes.{kinds, kind_number, named}
@@ -26,8 +24,8 @@ use Rattle.kinds.specs.Conditions.{fits}
 use Rattle.kinds.specs.Effects.{header_after}
 use Rattle.kinds.proofs.HeaderKept.{applied_header}
 use Rattle.steps.specs.declared.Lowest.{Lowest}
-use Rattle.steps.specs.declared.Lowest.TheVariants.{At, Nothing}
-use Rattle.steps.specs.Steps.{inner_slot, inner_at, limit_at, taken_words, step_kind, step_named, step_under, first_kind, first_from, first_allowed, Pool, pool_of, next_pool, pools_after, settle_under, level_written, step_words, settle_words}
+use Rattle.std.specs.Prelude.{Option as Found, Some, None}
+use Rattle.steps.specs.Steps.{lowest, inner_slot, inner_at, limit_at, taken_words, step_kind, step_named, step_under, first_kind, first_from, first_allowed, Pool, pool_of, next_pool, pools_after, settle_under, level_written, step_words, settle_words}
 
 -- from a pool to another one: the first four words stay, and of the header all but L
 record Kept (P Q : Pool) : Type 0 where
@@ -72,10 +70,10 @@ module _ (p : List ℕ) (h : Header) (s : ℕ) where
       go true false = kept_step (pool_of h p) s k (around_at p s) i
       go false b = kept_same (pool_of h p)
 
-  named_kept : 1 ≤ s → (m : Named) → Kept (pool_of h p) (left (step_named p h s m))
+  named_kept : 1 ≤ s → (m : Option Kind) → Kept (pool_of h p) (left (step_named p h s m))
   unfolding step_named left
-  named_kept i Unknown = kept_same (pool_of h p)
-  named_kept i (Known k) = kind_kept i k
+  named_kept i none = kept_same (pool_of h p)
+  named_kept i (some k) = kind_kept i k
 
   inner_from_one : inner_at p s ≡ true → 1 ≤ s
   unfolding inner_slot
@@ -93,30 +91,30 @@ pub step_words_lem : (p : List ℕ) (s n : ℕ) → step_words p s n ≡ words_a
 unfolding step_words
 step_words_lem p s n = level_written_lem p (step_under p (header_of p) s n) (step_kept p (header_of p) s n)
 
-at_slot : {s v : ℕ} {j k : Kind} {a b : Around} → At s j a ≡ At v k b → s ≡ v
-at_slot e = cc
+found_is : {a b : Lowest} → Some a ≡ Some b → a ≡ b
+found_is e = cc
 
 some_is : {P Q : Pool} → some P ≡ some Q → P ≡ Q
 some_is e = cc
 
 -- Settle. The first slot found is not below the first one looked at.
-not_below : (h : Header) (p : List ℕ) (n s : ℕ) {v : ℕ} {k : Kind} {a : Around} → first_from n h p s ≡ At v k a → s ≤ v
+not_below : (h : Header) (p : List ℕ) (n s : ℕ) {x : Lowest} → first_from n h p s ≡ Some x → s ≤ x.slot
 unfolding first_from
-not_below h p zero s {v} {k} {a} e = let z : ◌≡◌ {A = ℕ} 0 1 = cc in absurd (omega arith)
-not_below h p (suc n) s {v} {k} {a} e = go (first_kind kinds h p s) e (not_below h p n (suc s))
+not_below h p zero s {x} e = let z : ◌≡◌ {A = ℕ} 0 1 = cc in absurd (omega arith)
+not_below h p (suc n) s {x} e = go (first_kind kinds h p s) e (not_below h p n (suc s))
   where
-    go : (o : Option Kind) → elim o [ some j ↦ At s j (around_at p s) | none ↦ first_from n h p (suc s) ] ≡ At v k a → (first_from n h p (suc s) ≡ At v k a → suc s ≤ v) → s ≤ v
-    go (some j) f rest = omega (arith, at_slot f)
+    go : (o : Option Kind) → elim o [ some j ↦ Some (lowest s j (around_at p s)) | none ↦ first_from n h p (suc s) ] ≡ Some x → (first_from n h p (suc s) ≡ Some x → suc s ≤ x.slot) → s ≤ x.slot
+    go (some j) f rest = omega (arith, ap (λ (y : Lowest). y.slot) (found_is f))
     go none f rest = omega (arith, rest f)
 
 next_kept : (P Q : Pool) → next_pool P ≡ some Q → Kept P Q
 unfolding next_pool first_allowed
 next_kept P Q e = go (first_allowed P.header P.words) refl e
   where
-    go : (f : Lowest) → first_allowed P.header P.words ≡ f
-        → elim f [ At s k a ↦ some (pool_of (header_after k s P.header) (taken_words P.header.root P.words s k a)) | Nothing ↦ none ] ≡ some Q → Kept P Q
-    go (At s k a) found same = rw (sym (some_is same)) (kept_step P s k a (not_below P.header P.words (last_slot P.words) 1 found))
-    go Nothing found same = let z : ◌≡◌ {A = ℕ} 0 1 = cc in absurd (omega arith)
+    go : (f : Found Lowest) → first_allowed P.header P.words ≡ f
+        → elim f [ Some x ↦ some (pool_of (header_after x.kind x.slot P.header) (taken_words P.header.root P.words x.slot x.kind x.around)) | None ↦ none ] ≡ some Q → Kept P Q
+    go (Some x) found same = rw (sym (some_is same)) (kept_step P x.slot x.kind x.around (not_below P.header P.words (last_slot P.words) 1 found))
+    go None found same = let z : ◌≡◌ {A = ℕ} 0 1 = cc in absurd (omega arith)
 
 pools_kept : (b : ℕ) (P : Pool) → Kept P (last_of P (pools_after b P))
 unfolding pools_after last_of

@@ -25,7 +25,7 @@ use Rattle.format.proofs.Performing.{Does, does_pool}
 use Rattle.kinds.specs.Around.{around_at}
 use Rattle.kinds.specs.Effects.{header_after}
 use Rattle.kinds.proofs.EffectShows.{effect_shows}
-use Rattle.steps.specs.declared.Lowest.TheVariants.{At, Nothing}
+use Rattle.std.specs.Prelude.{Some, None}
 use Rattle.steps.specs.Steps.{allowed_words, taken_words, first_from, first_allowed, Pool, pool_of, next_pool, pools_after, settle_under, settle_answer, settle_words}
 use Rattle.steps.proofs.Scan.{all_false}
 use Rattle.steps.proofs.SettleTurns.{next_none, after_none}
@@ -63,7 +63,7 @@ module _ (S : State) where
   next_shows P t x = rw (first_shows (with_tree S t) t x.sound refl P.words x.shows, next_pool) (go (lowest_step S.slots 1 t) refl)
     where
       go : (o : Option (ℕ × Kind)) → lowest_step S.slots 1 t ≡ o → Next
-          (elim (lowest_of P.words o) [ At s k a ↦ some (pool_of (header_after k s P.header) (taken_words P.header.root P.words s k a)) | Nothing ↦ none ])
+          (elim (lowest_of P.words o) [ Some x ↦ some (pool_of (header_after x.kind x.slot P.header) (taken_words P.header.root P.words x.slot x.kind x.around)) | None ↦ none ])
           (elim o [ some a ↦ some (stepped a.1 a.0 t) | none ↦ none ])
       go (some a) e = both (step_stands P t x a e)
       go none e = neither
@@ -96,7 +96,7 @@ module _ {h : Header} {p : List ℕ} {S : State} (sound : Sound S) (shows : Show
   unfolding allowed_words
   none_allowed k s = rw (inner_empty sound shows s e)
 
-  none_found : (n s : ℕ) → first_from n h p s ≡ Nothing
+  none_found : (n s : ℕ) → first_from n h p s ≡ None
   unfolding first_from
   none_found zero s = refl
   none_found (suc n) s = rw (all_false h p s kinds (λ k. none_allowed k s), first_from) (none_found n (suc s))

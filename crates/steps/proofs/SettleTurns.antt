@@ -7,26 +7,24 @@ use native.Mathlib.Numerals.{add-one}
 use native.Mathlib.Omega.{arith}
 use lib.ListN.{length}
 use Prim.Native.Nat.{ℕ, zero, suc, ◌+◌, ◌-◌, ◌<◌}
-use Rattle.tree.specs.declared.Kind.{Kind}
 use Rattle.tree.specs.declared.Answer.{Answer}
 use Rattle.tree.specs.declared.Answer.TheVariants.{Done, Spent}
 use Rattle.tree.specs.Settle.{last_of, settled}
 use Rattle.format.specs.declared.Header.{Header}
-use Rattle.kinds.specs.declared.Around.{Around}
 use Rattle.kinds.specs.Effects.{header_after}
 use Rattle.steps.specs.declared.Lowest.{Lowest}
-use Rattle.steps.specs.declared.Lowest.TheVariants.{At, Nothing}
+use Rattle.std.specs.Prelude.{Option as Found, Some, None}
 use Rattle.steps.specs.Steps.{taken_words, first_allowed, Pool, pool_of, next_pool, pools_after, settle_under}
 
 module _ (P : Pool) where
-  pub next_none : first_allowed P.header P.words ≡ Nothing → next_pool P ≡ none
+  pub next_none : first_allowed P.header P.words ≡ None → next_pool P ≡ none
   unfolding next_pool
   next_none e = rw (e, next_pool)
 
-  next_some : (s : ℕ) (k : Kind) (a : Around) → first_allowed P.header P.words ≡ At s k a
-      → next_pool P ≡ some (pool_of (header_after k s P.header) (taken_words P.header.root P.words s k a))
+  next_some : (x : Lowest) → first_allowed P.header P.words ≡ Some x
+      → next_pool P ≡ some (pool_of (header_after x.kind x.slot P.header) (taken_words P.header.root P.words x.slot x.kind x.around))
   unfolding next_pool
-  next_some s k a e = rw (e, next_pool)
+  next_some x e = rw (e, next_pool)
 
   pub after_none : (b : ℕ) → next_pool P ≡ none → pools_after b P ≡ []
   unfolding pools_after
@@ -64,10 +62,10 @@ module _ (h : Header) (b : ℕ) (p₀ : List ℕ) where
   begin = let e : b - 0 ≡ b = omega arith in record { taken = rw e (omega arith); last = rw e }
 
   module _ (n : ℕ) (P : Pool) (t : Turn n P) where
-    pub turn : {f : Lowest} → f ≡ first_allowed P.header P.words → (s : ℕ) (k : Kind) (a : Around) → f ≡ At s k a → n < b
-        → {g : Header} {q : List ℕ} → g ≡ header_after k s P.header → q ≡ taken_words P.header.root P.words s k a → Turn (n + 1) (pool_of g q)
-    turn ef s k a e l {g} {q} eg eq =
-        let next : next_pool P ≡ some (pool_of g q) = rw (eg, eq) (next_some P s k a (sym ef ∙ e)) in
+    pub turn : {f : Found Lowest} → f ≡ first_allowed P.header P.words → (x : Lowest) → f ≡ Some x → n < b
+        → {g : Header} {q : List ℕ} → g ≡ header_after x.kind x.slot P.header → q ≡ taken_words P.header.root P.words x.slot x.kind x.around → Turn (n + 1) (pool_of g q)
+    turn ef x e l {g} {q} eg eq =
+        let next : next_pool P ≡ some (pool_of g q) = rw (eg, eq) (next_some P x (sym ef ∙ e)) in
         let r = after_some P (b - n) (b - (n + 1)) (pool_of g q) (omega arith) next in
         record { taken = omega (arith, t.taken, ap length r); last = t.last ∙ last_some P (pool_of g q) r }
 
@@ -80,14 +78,14 @@ module _ (h : Header) (b : ℕ) (p₀ : List ℕ) where
         let y : last_of (pool_of h p₀) (pools_after b (pool_of h p₀)) ≡ P = t.last ∙ last_none P g in
         record { answer = rw (x, y, e); header = ap (λ (Q : Pool). Q.header) (sym y); words = ap (λ (Q : Pool). Q.words) (sym y) }
 
-    pub done : {f : Lowest} → f ≡ first_allowed P.header P.words → f ≡ Nothing
+    pub done : {f : Found Lowest} → f ≡ first_allowed P.header P.words → f ≡ None
         → Ended (Done n) P
     unfolding settled
     done ef e =
         let x = next_none P (sym ef ∙ e) in
         settles (after_none P (b - n) x) none x
 
-    pub spent : {f : Lowest} → f ≡ first_allowed P.header P.words → (s : ℕ) (k : Kind) (a : Around) → f ≡ At s k a → n ≡ b
+    pub spent : {f : Found Lowest} → f ≡ first_allowed P.header P.words → (x : Lowest) → f ≡ Some x → n ≡ b
         → Ended (Spent n) P
     unfolding settled
-    spent ef s k a e z = settles (after_spent P (b - n) (omega arith)) _ (next_some P s k a (sym ef ∙ e))
+    spent ef x e z = settles (after_spent P (b - n) (omega arith)) _ (next_some P x (sym ef ∙ e))

@@ -4,17 +4,16 @@
 -- Why: both go by the same questions in the same order, and each question has the same answer: whether the slot is an inner node
 -- (AllowedShows.antt), whether the condition holds (ConditionShows.antt of crate kinds), whether the level is at its limit
 -- (LevelShows.antt); and an accepted step has the same effect (EffectShows.antt of crate kinds). Assumes nothing.
+use mathlib.Core.Option.{Option, none, some}
 use mathlib.Core.Path.{◌≡◌, refl, sym, ◌∙◌}
 use mathlib.Core.Bool.{Bool, true, false}
 use mathlib.Core.List.{List}
 use Prim.Native.Nat.{ℕ}
 use Rattle.tree.specs.declared.Kind.{Kind}
-use Rattle.tree.specs.declared.Named.{Named}
-use Rattle.tree.specs.declared.Named.TheVariants.{Known, Unknown}
 use Rattle.tree.specs.declared.Refusal.{Refusal}
 use Rattle.tree.specs.declared.Refusal.TheVariants.{NoInnerNode, NoSuchKind, ConditionFalse, LevelLimit}
 use Rattle.tree.specs.declared.Answer.TheVariants.{Done, Refused}
-use Rattle.tree.specs.Codes.{kind_number, named}
+use Rattle.tree.specs.Codes.{kind_number, named, kind_or_refusal}
 use Rattle.tree.specs.Tree.{Tree}
 use Rattle.tree.specs.Kinds.{condition_at}
 use Rattle.tree.specs.State.{State, full, Outcome, Sound, no_inner, step}
@@ -50,9 +49,9 @@ module _ (S : State) (sound : Sound S) (h : Header) (p : List ℕ) (shows : Show
       go false i = refl
 
   -- past 8 and 9, the condition
-  module _ (t : Tree) (e : S.top ≡ full t) (f : no_inner s S t ≡ false) (k : Kind) (g : named n ≡ Known k) where
+  module _ (t : Tree) (e : S.top ≡ full t) (f : no_inner s S t ≡ false) (k : Kind) (g : named n ≡ some k) where
     known : step_under p h s n ≡ step_kind p h s (slot_at p s) k
-    known = case_known p h s n k (inner_shows S t sound e p shows s ∙ inner_yes t e f) g
+    known = case_known p h s n k (inner_shows S t sound e p shows s ∙ inner_yes t e f) (rw (g, kind_or_refusal))
 
     fits_is : fits k (around_at p s) ≡ condition_at k s t
     fits_is = condition_shows S t sound e p shows k s (inner_yes t e f)
@@ -60,7 +59,7 @@ module _ (S : State) (sound : Sound S) (h : Header) (p : List ℕ) (shows : Show
   step_does : {o : Outcome} → StepCase s n S o → Does (step_under p h s n) o
   step_does (refused (in_empty e)) = rw (case_8 p h s n (inner_empty sound shows s e)) (does_refused NoInnerNode shows)
   step_does (refused (no_inner_case {t} e f)) = rw (case_8 p h s n (inner_shows S t sound e p shows s ∙ inner_no t e f)) (does_refused NoInnerNode shows)
-  step_does (refused (no_kind {t} e f g)) = rw (case_9 p h s n (inner_shows S t sound e p shows s ∙ inner_yes t e f) g) (does_refused NoSuchKind shows)
+  step_does (refused (no_kind {t} e f g)) = rw (case_9 p h s n NoSuchKind (inner_shows S t sound e p shows s ∙ inner_yes t e f) (rw (g, kind_or_refusal))) (does_refused NoSuchKind shows)
   step_does (refused (condition_false {t} {k} e f g c)) = rw (known t e f k g, kind_10 p h s _ k (fits_is t e f k g ∙ c)) (does_refused ConditionFalse shows)
   step_does (refused (at_limit_case {t} {k} e f g c l)) =
       rw (known t e f k g, kind_11 p h s _ k (fits_is t e f k g ∙ c) (limit_shows S t sound e p shows k s ∙ l)) (does_refused LevelLimit shows)
@@ -90,10 +89,10 @@ kind_ends p h s c k = go (fits k (around_of p c)) (limit_at k h s)
     go true false = done
     go false l = ended
 
-named_ends : (p : List ℕ) (h : Header) (s : ℕ) (m : Named) → Ends p h (step_named p h s m)
+named_ends : (p : List ℕ) (h : Header) (s : ℕ) (m : Option Kind) → Ends p h (step_named p h s m)
 unfolding step_named
-named_ends p h s Unknown = ended
-named_ends p h s (Known k) = kind_ends p h s (slot_at p s) k
+named_ends p h s none = ended
+named_ends p h s (some k) = kind_ends p h s (slot_at p s) k
 
 step_ends : (p : List ℕ) (h : Header) (s n : ℕ) → Ends p h (step_under p h s n)
 unfolding step_under

@@ -1,11 +1,11 @@
 -- Document 01, on words: the command step (RULES 4); the first allowed step, and settle as the list of pools that it goes through
 -- (RULES 5); the header given by value; and the same for a pool whose header lies in its first words.
 use Rattle.std.specs.Prelude.{Bool, true, false, not, ◌&&◌, List, [], ◌∷◌, eqb, leb, length, ℕ, zero, suc}
+use Rattle.std.specs.Prelude.{Option as Found, Some, None}
+use Rattle.std.specs.List.{find}
 use Rattle.std.proofs.Math.Option.{Option, none, some}
 use Rattle.tree.specs.declared.Kind.{Kind}
 use Rattle.tree.specs.declared.Kind.TheVariants.{Blacken}
-use Rattle.tree.specs.declared.Named.{Named}
-use Rattle.tree.specs.declared.Named.TheVariants.{Known, Unknown}
 use Rattle.tree.specs.declared.Refusal.TheVariants.{NoInnerNode, NoSuchKind, ConditionFalse, LevelLimit}
 use Rattle.tree.specs.declared.Answer.{Answer}
 use Rattle.tree.specs.declared.Answer.TheVariants.{Done, Refused}
@@ -20,7 +20,6 @@ use Rattle.kinds.specs.Around.{around_of, around_at}
 use Rattle.kinds.specs.Conditions.{fits}
 use Rattle.kinds.specs.Effects.{applied, header_after}
 use Rattle.steps.specs.declared.Lowest.{Lowest}
-use Rattle.steps.specs.declared.Lowest.TheVariants.{At, Nothing}
 
 -- A leaf and a free slot have right 0, an inner node has not.
 abbrev pub has_children : Slot → Bool
@@ -62,9 +61,9 @@ step_kind p h s c k =
     ]
 
 -- 9: "kind not 1 to 8"
-unfoldable pub step_named : List ℕ → Header → ℕ → Named → Written
-step_named p h s Unknown = written p (Refused NoSuchKind) h
-step_named p h s (Known k) = step_kind p h s (slot_at p s) k
+unfoldable pub step_named : List ℕ → Header → ℕ → Option Kind → Written
+step_named p h s none = written p (Refused NoSuchKind) h
+step_named p h s (some k) = step_kind p h s (slot_at p s) k
 
 -- 8: "slot is 0, above C, free or a leaf"
 unfoldable pub step_under : List ℕ → Header → ℕ → ℕ → Written
@@ -75,12 +74,19 @@ unfoldable pub first_kind : List Kind → Header → List ℕ → ℕ → Option
 first_kind [] h p s = none
 first_kind (k ∷ ks) h p s = elim (allowed_words k h p s) [ true ↦ some k | false ↦ first_kind ks h p s ]
 
--- RULES 5.2: "the lowest slot with an allowed kind, and there the lowest kind", among the n slots from s on, with what stands around it
-unfoldable pub first_from : ℕ → Header → List ℕ → ℕ → Lowest
-first_from zero h p s = Nothing
-first_from (suc n) h p s = elim (first_kind kinds h p s) [ some k ↦ At s k (around_at p s) | none ↦ first_from n h p (suc s) ]
+-- the same of an inner node, around which a stands
+unfoldable pub lowest_around : Header → ℕ → Around → Found Kind
+lowest_around h s a = find (λ k. allowed_around k h s a) kinds
 
-unfoldable pub first_allowed : Header → List ℕ → Lowest
+abbrev pub lowest : ℕ → Kind → Around → Lowest
+lowest s k a = record { slot = s; kind = k; around = a }
+
+-- RULES 5.2: "the lowest slot with an allowed kind, and there the lowest kind", among the n slots from s on, with what stands around it
+unfoldable pub first_from : ℕ → Header → List ℕ → ℕ → Found Lowest
+first_from zero h p s = None
+first_from (suc n) h p s = elim (first_kind kinds h p s) [ some k ↦ Some (lowest s k (around_at p s)) | none ↦ first_from n h p (suc s) ]
+
+unfoldable pub first_allowed : Header → List ℕ → Found Lowest
 first_allowed h p = first_from (last_slot p) h p 1
 
 -- words, and the header that they stand under
@@ -93,8 +99,8 @@ pool_of h p = record { header = h; words = p }
 
 unfoldable pub next_pool : Pool → Option Pool
 next_pool P = let h = P.header in let p = P.words in elim (first_allowed h p) [
-  | At s k a ↦ some (pool_of (header_after k s h) (taken_words h.root p s k a))
-  | Nothing ↦ none
+  | Some x ↦ some (pool_of (header_after x.kind x.slot h) (taken_words h.root p x.slot x.kind x.around))
+  | None ↦ none
 ]
 
 -- RULES 5.2 and 5.3: "Settle repeats [..] until none is left or the budget is spent": the pools after the first.

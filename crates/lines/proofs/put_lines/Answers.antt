@@ -1,11 +1,17 @@
--- There is room for the next line, and with it the lines of one answer more are put. Assumes nothing.
-use Rattle.std.proofs.Common.{arith}
-use Rattle.lines.proofs.Stores.{putting_length, putting_place, putting_more}
+-- One answer's line is put, and the rest of the words is left. Assumes nothing.
+use Rattle.std.proofs.Common.{◌∙◌, arith}
+use Rattle.lines.proofs.Texts.{putting_more, putting_ends}
 use Rattle.lines.proofs.put_lines.Goals as goal
 
-pub put_line-at-requires : goal.put_line-at-requires
-put_line-at-requires c = omega (arith, putting_length c.loop-i.invariant.0, putting_place c.loop-i.invariant.0)
+pub loop-answer-preserved : goal.loop-answer-preserved
+loop-answer-preserved c =
+    let s = c.in-Some.ensures.steps in
+    record {
+      size = s.0 ∙ c.loop-answer.invariant.size;
+      puts = putting_more _ c.loop-answer.invariant.puts s.1.0 (s.1.1 ∙ c.loop-answer.invariant.size) c.put_line.ensures;
+    }
 
-pub loop-i-preserved : goal.loop-i-preserved
-loop-i-preserved c =
-    (putting_more c.loop-i.invariant.0 c.word.ensures c.word-in-loop-i.ensures c.put_line-at.ensures.next c.put_line-at.ensures.out, omega arith)
+pub returns : goal.returns
+returns c =
+    let s = c.in-None.ensures.steps in
+    putting_ends c.loop-answer.invariant.puts (omega (arith, s.1.0, c.loop-answer.invariant.size))

@@ -1,11 +1,12 @@
--- `lines::put_lines` meets its contract. The loop's invariant, `Putting`: the lines of the answers passed are put, and the place is
--- after them. The measure is what is left of the count. Assumes nothing.
-use Prim.Native.Nat.{◌≤◌, ◌-◌}
-use Rattle.lines.proofs.Stores.{Putting}
+-- The invariant of the loop over the answers, `Putting`: the lines of the words that are left, put behind the text, make the whole text.
+use Rattle.std.proofs.Common.{◌≡◌, ◌++◌, ◌/◌, length}
+use Rattle.std.specs.Slice.Iter.{chunks_exact_size, chunks_exact_rest}
+use Rattle.lines.specs.Printed.{lines}
+use Rattle.lines.proofs.Texts.{Putting}
 use Rattle.lines.proofs.put_lines.Given as goal
 
-abbrev pub invariant-loop-i : goal.invariant-loop-i
-invariant-loop-i l = Putting l.fn.out l.out l.answers l.i l.at × (l.i ≤ l.count)
-
-abbrev pub decreases-loop-i : goal.decreases-loop-i
-decreases-loop-i l = l.count - l.i
+abbrev pub invariant-loop-answer : goal.invariant-loop-answer
+invariant-loop-answer l = record {
+  size : chunks_exact_size l.answer-iterator ≡ 2;
+  puts : Putting (l.fn.text.bytes ++ lines (length l.answers / 2) l.answers) l.text.bytes (chunks_exact_rest l.answer-iterator);
+}

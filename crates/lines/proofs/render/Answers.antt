@@ -1,14 +1,11 @@
--- One call on a prepared pool, and then its lines or the one that says `refused`. Assumes nothing.
-use Rattle.std.proofs.Common.{rules}
-use Rattle.lines.proofs.Rendering.{render_ran, render_refused}
+-- The text is copied to the buffer. Assumes nothing.
+use Rattle.std.proofs.Common.{◌∙◌, ap, length, arith}
+use Rattle.lines.proofs.Rendering.{copied, copied_first}
 use Rattle.lines.proofs.render.Goals as goal
 
-pub returns-then-called-eq-DONE : goal.returns-then-called-eq-DONE
-returns-then-called-eq-DONE c =
-    let t = render_ran _ _ (search rules) c.prepare.ensures.pool c.batch-called.ensures.code c.if-called-eq-DONE.true c.batch-called.ensures.answers c.commands_in.ensures.few c.commands_in.ensures.count c.put_lines.ensures.next c.put_lines.ensures.out in
-    record { count = t.0; out = t.1.0; text = t.1.1 }
-
-pub returns-else-called-eq-DONE : goal.returns-else-called-eq-DONE
-returns-else-called-eq-DONE c =
-    let t = render_refused _ _ (search rules) c.prepare.ensures.pool c.batch-called.ensures.code c.if-called-eq-DONE.false c.batch-called.ensures.number c.put_refused.ensures.next c.put_refused.ensures.out in
-    record { count = t.0; out = t.1.0; text = t.1.1 }
+pub returns : goal.returns
+returns c =
+    let is = c.text_of-text.ensures in
+    let count = c.len-count.ensures.value ∙ ap length is in
+    let copy = c.copy_from_slice.ensures.after ∙ c.as_bytes.ensures.value ∙ c.deref.ensures.0 ∙ is in
+    record { count = count; out = copied c.args.out.now count copy (omega arith); text = copied_first c.args.out.now count copy (omega arith) }

@@ -1,5 +1,4 @@
--- `pool::walk_chain` meets its contract. The invariant: the answer from here on, with as many slots as turns are left, is the answer of the
--- whole walk. Assumes nothing.
+-- The loop's invariant: the answer from here on, with as many slots as are left, is the answer of the whole walk. Assumes nothing.
 use Rattle.std.proofs.Common.{◌≡◌, ◌-◌}
 use Rattle.pool.specs.Visits.{chain_tour}
 use Rattle.pool.proofs.walk_chain.Given as goal

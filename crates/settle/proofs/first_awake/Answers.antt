@@ -5,11 +5,11 @@ use Rattle.settle.proofs.Scans.{Same, same_asleep, same_nothing, same_found, sam
 use Rattle.settle.proofs.first_awake.Goals as goal
 use Rattle.settle.proofs.first_awake.Goals.{then-is_awake+in_default, else-is_awake}
 
-pub returns-in-At : goal.returns-in-At
-returns-in-At c =
+pub returns-in-Some : goal.returns-in-Some
+returns-in-Some c =
     let g = c.loop-g.g in
     let ensures = c.first_in_group-found.ensures in
-    let x = same_found _ _ _ (c.last_slot.result / 8 / 32 - g) _ _ _ c.loop-g.invariant.same (2048 + g) refl (omega arith) (sym c.if-is_awake.ensures) _ _ _ (sym ensures.found ∙ c.in-At.is) in
+    let x = same_found _ _ _ (c.last_slot.result / 8 / 32 - g) _ _ _ c.loop-g.invariant.same (2048 + g) refl (omega arith) (sym c.if-is_awake.ensures) _ (sym ensures.found ∙ c.in-Some.is) in
     record { found = ensures.found ∙ x.0; awake = ensures.awake ∙ x.1 }
 
 pub loop-g-preserved : goal.loop-g-preserved

@@ -4,17 +4,17 @@ use Rattle.settle.proofs.Scans.{same_asleep, same_nothing, same_found, same_end,
 use Rattle.settle.proofs.first_in_group.Goals as goal
 use Rattle.settle.proofs.first_in_group.Goals.{then-is_awake+in_default, else-is_awake}
 
-pub returns-in-At : goal.returns-in-At
-returns-in-At c =
+pub returns-in-Some : goal.returns-in-Some
+returns-in-Some c =
     let b = c.loop-b.b in
     let is = block_found c.args.h c.args.pool.now b c.loop-b.awake ∙ sym c.first_among-found.ensures in
-    let x = same_found _ _ _ (c.smaller-end.result - (b + 1)) _ _ _ c.loop-b.invariant.same b (omega arith) (omega arith) (sym c.if-is_awake.ensures) _ _ _ (is ∙ c.in-At.is) in
+    let x = same_found _ _ _ (c.min-end.result - (b + 1)) _ _ _ c.loop-b.invariant.same b (omega arith) (omega arith) (sym c.if-is_awake.ensures) _ (is ∙ c.in-Some.is) in
     record { found = sym is ∙ x.0; awake = sym (block_leaves c.args.h c.args.pool.now b c.loop-b.awake) ∙ x.1 }
 
 pub loop-b-preserved : goal.loop-b-preserved
 loop-b-preserved c =
     let b = c.loop-b.b in
-    let m = c.smaller-end.result - (b + 1) in
+    let m = c.min-end.result - (b + 1) in
     record {
       few = c.loop-b.invariant.few;
       same = elim c.if-is_awake.branch [

@@ -3,9 +3,9 @@ use Rattle.std.proofs.Common.{◌∙◌, arith}
 use Rattle.settle.proofs.SettleTurns.{turn}
 use Rattle.settle.proofs.settle_from.Goals as goal
 
-pub loop-s-preserved : goal.loop-s-preserved
-loop-s-preserved c = record {
+pub loop-step-preserved : goal.loop-step-preserved
+loop-step-preserved c = record {
   within = omega arith;
-  turns = turn _ _ _ _ _ _ c.loop-s.invariant.turns c.first_awake.ensures.found _ _ _ c.in-At.is (omega arith) c.take_step.ensures.header c.take_step.ensures.pool
+  turns = turn _ _ _ _ _ _ c.loop-step.invariant.turns c.first_awake.ensures.found _ c.in-Some.is (omega arith) c.take_step.ensures.header c.take_step.ensures.pool
       (c.wake_around.ensures ∙ rw c.first_awake.ensures.awake);
 }

@@ -5,11 +5,11 @@ use Rattle.settle.specs.Settling.{pool_of}
 use Rattle.settle.proofs.SettleTurns.{Turn}
 use Rattle.settle.proofs.settle_from.Given as goal
 
-abbrev pub invariant-loop-s : goal.invariant-loop-s
-invariant-loop-s l = record {
+abbrev pub invariant-loop-step : goal.invariant-loop-step
+invariant-loop-step l = record {
   within : l.taken ≤ l.budget;
   turns : Turn l.fn.h l.budget l.fn.pool l.fn.awake l.taken (pool_of l.h l.pool l.awake);
 }
 
-abbrev pub decreases-loop-s : goal.decreases-loop-s
-decreases-loop-s l = l.budget - l.taken
+abbrev pub decreases-loop-step : goal.decreases-loop-step
+decreases-loop-step l = l.budget - l.taken

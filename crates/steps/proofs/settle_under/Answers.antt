@@ -3,8 +3,8 @@ use Rattle.std.proofs.Common.{arith}
 use Rattle.steps.proofs.SettleTurns.{turn}
 use Rattle.steps.proofs.settle_under.Goals as goal
 
-pub loop-s-preserved : goal.loop-s-preserved
-loop-s-preserved c = record {
+pub loop-step-preserved : goal.loop-step-preserved
+loop-step-preserved c = record {
   within = omega arith;
-  turns = turn _ _ _ _ _ c.loop-s.invariant.turns c.first_allowed.ensures _ _ _ c.in-At.is (omega arith) c.take_step.ensures.header c.take_step.ensures.pool;
+  turns = turn _ _ _ _ _ c.loop-step.invariant.turns c.first_allowed.ensures _ c.in-Some.is (omega arith) c.take_step.ensures.header c.take_step.ensures.pool;
 }

@@ -5,11 +5,11 @@ use Rattle.steps.specs.Steps.{pool_of}
 use Rattle.steps.proofs.SettleTurns.{Turn}
 use Rattle.steps.proofs.settle_under.Given as goal
 
-abbrev pub invariant-loop-s : goal.invariant-loop-s
-invariant-loop-s l = record {
+abbrev pub invariant-loop-step : goal.invariant-loop-step
+invariant-loop-step l = record {
   within : l.taken ≤ l.budget;
   turns : Turn l.fn.h l.budget l.fn.pool l.taken (pool_of l.h l.pool);
 }
 
-abbrev pub decreases-loop-s : goal.decreases-loop-s
-decreases-loop-s l = l.budget - l.taken
+abbrev pub decreases-loop-step : goal.decreases-loop-step
+decreases-loop-step l = l.budget - l.taken
