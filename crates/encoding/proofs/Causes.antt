@@ -1,6 +1,7 @@
 -- What a command answers, by 01's table: its code is the lowest whose cause is there, and 0 where none is (`answered`); and since no two
 -- codes are lowest (`first_once`), it is n exactly when n is that (`code_exactly`). Its number is the table's, of which there is one
 -- (`numbered_once`). One table of cases, by the operation, of what crate tree says that each answers. Assumes nothing.
+use mathlib.Core.Option.{none, some}
 use mathlib.Core.Path.{◌≡◌, refl, ap, sym, ◌∙◌}
 use mathlib.Core.Logic.{◌↔◌, ◌≢◌, ◌⊎◌, inl, inr}
 use mathlib.Core.Bool.{Bool, true, false, not, false≢true}
@@ -12,7 +13,6 @@ use native.Mathlib.Omega.{arith}
 use Prim.Native.Nat.{ℕ, ◌≤◌, ◌<◌}
 use Rattle.tree.specs.declared.Kind.{Kind}
 use Rattle.tree.specs.declared.Kind.TheVariants.{Blacken, SingleLeft, SingleRight, DoubleLeft, DoubleRight, Lighten, LightenLeft, LightenRight}
-use Rattle.tree.specs.declared.Named.TheVariants.{Known, Unknown}
 use Rattle.tree.specs.declared.Answer.{Answer}
 use Rattle.tree.specs.Codes.{most_level, kind_number, named, code_of, number_of}
 use Rattle.tree.specs.Tree.{Tree, slot_of, count_in, level, LeafIn}
@@ -149,7 +149,7 @@ module _ (a b : ℕ) (S : State) (sound : Sound S) where
   one_kind : (j k : Kind) → kind_number j ≡ kind_number k → j ≡ k
   one_kind j k e = let x = named_known j in let y = named_known k in cc
 
-  module _ (t : Tree) (e0 : S.top ≡ full t) (f : no_inner a S t ≡ false) (k : Kind) (g : named b ≡ Known k) where
+  module _ (t : Tree) (e0 : S.top ≡ full t) (f : no_inner a S t ≡ false) (k : Kind) (g : named b ≡ some k) where
     number : b ≡ kind_number k
     number = named_number b k g
 
@@ -196,7 +196,7 @@ module _ (a b : ℕ) (S : State) (sound : Sound S) where
         go LightenLeft n l = absurd (false≢true l)
         go LightenRight n l = absurd (false≢true l)
 
-  unknown_is : named b ≡ Unknown → Cause a b S Step 9
+  unknown_is : named b ≡ none → Cause a b S Step 9
   unknown_is g = elim (ℕ_discrete b 0) [
     | yes z ↦ kind_0 z
     | no z ↦ elim (dec_lt 8 b) [ yes l ↦ kind_above l | no l ↦ absurd (not_unknown b (omega arith) (omega arith) g) ]

@@ -3,6 +3,7 @@
 -- Every case is a kind (`every_case`).
 -- Why: each test of the condition is one of the case's edges. Only Case 1 does not have its conflict from its own edges: there 01's
 -- "some grandchild red" is the paper's "it was assumed that there is a conflict at v". Assumes nothing.
+use mathlib.Core.Option.{some}
 use mathlib.Core.Path.{◌≡◌, refl, sym, ◌∙◌}
 use mathlib.Core.Logic.{◌↔◌, ◌≢◌}
 use mathlib.Core.Bool.{true, false, not, ◌&&◌, or-true}
@@ -12,7 +13,6 @@ use native.Mathlib.Decide.{dec_le}
 use Prim.Native.Nat.{ℕ, zero, suc, ◌+◌, ◌≤◌, ◌<◌}
 use Rattle.tree.specs.declared.Kind.{Kind}
 use Rattle.tree.specs.declared.Kind.TheVariants.{Blacken, SingleLeft, SingleRight, DoubleLeft, DoubleRight, Lighten, LightenLeft, LightenRight}
-use Rattle.tree.specs.declared.Named.TheVariants.{Known}
 use Rattle.tree.specs.declared.Answer.TheVariants.{Done}
 use Rattle.tree.specs.Codes.{named}
 use Rattle.tree.specs.Tree.{Tree, leaf, node, red, overweighted, count, Chromatic}
@@ -256,7 +256,7 @@ condition_as_paper k s t c n = (
 -- What it takes for a step to be accepted, in the paper's terms: 11 is 01's own limit.
 pub record AcceptedAsPaper (s n m : ℕ) (t : Tree) : Type 0 where
   pub kind : Kind
-  pub is_named : named n ≡ Known kind
+  pub is_named : named n ≡ some kind
   pub fits_at : FitsAt kind s t
   pub below_limit : at_limit kind s t ≡ false
   pub number : m ≡ n
