@@ -1,7 +1,6 @@
 -- A call, test by test as the code makes them: what was found in the bytes, whether the answers suffice, what the audit says.
 -- Assumes nothing.
 use mathlib.Core.Path.{◌≡◌, refl, sym, ◌∙◌}
-use mathlib.Core.Logic.{◌≢◌}
 use mathlib.Core.Bool.{Bool, true, false, not}
 use mathlib.Core.List.{List}
 use Prim.Native.Nat.{ℕ, ◌*◌, ◌≤◌, ◌<◌}
@@ -9,9 +8,9 @@ use native.Mathlib.Omega.{arith}
 use lib.ListN.{length}
 use borrow.Author.Tests.{not-true, not-false}
 use Rattle.tree.specs.declared.Refusal.{Refusal}
-use Rattle.tree.specs.declared.Refusal.TheVariants.{PoolLength, RulesBroken, BadCommand, FewAnswers}
+use Rattle.tree.specs.declared.Refusal.TheVariants.{PoolLength, BadCommand, FewAnswers}
 use Rattle.format.specs.declared.Header.{Header}
-use Rattle.format.specs.Words.{header_of, length_good}
+use Rattle.format.specs.Words.{length_good}
 use Rattle.format.specs.declared.Unsound.{Unsound}
 use Rattle.format.specs.Audit.{audited, refusal_of}
 use Rattle.format.proofs.AuditCases.{Kept, broken_told}
