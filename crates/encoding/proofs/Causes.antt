@@ -1,6 +1,7 @@
 -- What a command answers, by 01's table: its code is the lowest whose cause is there, and 0 where none is (`answered`); and since no two
 -- codes are lowest (`first_once`), it is n exactly when n is that (`code_exactly`). Its number is the table's, of which there is one
 -- (`numbered_once`). One table of cases, by the operation, of what crate tree says that each answers. Assumes nothing.
+use mathlib.Core.Option.{none, some}
 use mathlib.Core.Path.{◌≡◌, refl, ap, sym, ◌∙◌}
 use mathlib.Core.Logic.{◌↔◌, ◌≢◌, ◌⊎◌, inl, inr}
 use mathlib.Core.Bool.{Bool, true, false, not, false≢true}

@@ -22,7 +22,7 @@ use Rattle.steps.proofs.LevelShows.{limit_shows}
 use Rattle.steps.specs.Steps.{inner_at, limit_at, lowest}
 use Rattle.steps.proofs.AllowedShows.{lowest_of, inner_shows, inner_empty, no_condition}
 use Rattle.settle.proofs.Scans.{all_false}
-use Rattle.std.specs.Prelude.{Option as Found, Some, None}
+use Rattle.std.specs.Prelude.{Some, None}
 use Rattle.settle.specs.Scanning.{slot_counts, allowed_around, allowed_words, first_kind, first_from, first_allowed}
 
 module _ (S : State) (t : Tree) (sound : Sound S) (e : S.top ≡ full t) {h : Header} (p : List ℕ) (shows : Shows h p S) where

@@ -9,7 +9,6 @@ use Rattle.tree.specs.Settle.{last_of}
 use Rattle.format.specs.declared.Header.{Header}
 use Rattle.format.specs.Words.{header_of}
 use Rattle.format.specs.Performing.{words_after}
-use Rattle.kinds.specs.declared.Around.{Around}
 use Rattle.kinds.specs.Around.{around_at}
 use Rattle.kinds.specs.Effects.{header_after}
 use Rattle.steps.specs.Steps.{taken_words, lowest}

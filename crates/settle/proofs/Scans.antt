@@ -1,7 +1,7 @@
 -- The scans for the first allowed step, over kinds, slots and rows of numbers, and the search for a slot's parent, turn by turn: what comes of
 -- them from here is what comes from the next turn.
 -- Assumes nothing.
-use Rattle.std.proofs.Common.{◌≡◌, ℕ, zero, suc, ◌+◌, ◌-◌, ◌*◌, ◌/◌, true, false, ◌≢◌, List, [], ◌∷◌, drop, set, sym, refl, ap, ◌∙◌, add-one, arith, eq-eqb, ne_eqb, ◌&&◌}
+use Rattle.std.proofs.Common.{◌≡◌, ℕ, zero, suc, ◌+◌, ◌-◌, ◌*◌, ◌/◌, true, false, ◌≢◌, List, [], ◌∷◌, set, sym, refl, ap, ◌∙◌, add-one, arith, eq-eqb, ne_eqb, ◌&&◌}
 use mathlib.Core.Option.{Option, none, some}
 use mathlib.Core.Bool.{Bool, and-true, and-false}
 use Rattle.std.specs.List.{find}

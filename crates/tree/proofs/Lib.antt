@@ -1,5 +1,4 @@
 pub mod Tables
-pub mod Searches
 pub mod KindNumbers
 pub mod Tests
 pub mod Counts

@@ -1,5 +1,5 @@
 -- The invariant of the scan: the first step from here is the first one from the start. Assumes nothing.
-use Rattle.std.proofs.Common.{◌≡◌, ◌-◌, ◌≤◌}
+use Rattle.std.proofs.Common.{◌≡◌, ◌-◌}
 use Rattle.settle.specs.Scanning.{first_from}
 use Rattle.settle.proofs.first_among.Given as goal
 

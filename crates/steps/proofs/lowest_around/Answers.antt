@@ -1,12 +1,16 @@
 -- The search of the table of kinds is the search of the list of kinds. Assumes nothing.
-use Rattle.std.proofs.Common.{rules, tests, ◌∙◌, ap}
+use Rattle.std.proofs.Common.{rules, tests, sym, ◌∙◌, ap, ◌≡◌}
 use Rattle.std.specs.List.{find}
-use Rattle.tree.proofs.Searches.{found_in_array}
+use Rattle.std.specs.Prelude.{option_map}
+use Rattle.std.proofs.lemmas.Iterator.{YieldsList-from_slice}
+use Rattle.std.proofs.lemmas.Iterator.Search.{find_from_yields_List}
+use Rattle.tree.specs.Codes.{kinds}
 use Rattle.steps.specs.Steps.{allowed_around, lowest_around}
 use Rattle.steps.proofs.lowest_around.Goals as goal
 
 pub returns : goal.returns
 unfolding lowest_around
 returns c =
-    found_in_array (λ k. allowed_around k c.args.h c.args.s c.args.a) c.into_iter.result _ _ c.find.result c.find.ensures.ran (λ x b q k. search (rules, tests))
-    ∙ ap (find (λ k. allowed_around k c.args.h c.args.s c.args.a)) c.into_iter.ensures.into_iter_gives.0
+    let found = find_from_yields_List (λ k. allowed_around k c.args.h c.args.s c.args.a) _ _ c.find.result c.find.ensures.ran
+        (YieldsList-from_slice kinds cc) (λ x b q k. search (rules, tests)) in
+    c.copied.ensures ∙ found
