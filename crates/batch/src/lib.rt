@@ -51,7 +51,8 @@ fn put_answer(answers: &mut [u32], place: usize, a: Answer)
 }
 
 // 01: "Commands run in order and a refused command does not stop the rest." The pool passed the audit with the header h, which is carried
-// through the commands and written once, at the end.
+// through the commands and written once, at the end. No other loop goes from command to command and runs them: an iterator would be longer than
+// this `while`.
 #[tactic(auto, using(crate::proofs::Turns::turn_starts, crate::proofs::Turns::turn_fault, crate::proofs::Turns::turn_place, crate::proofs::Turns::turn_good, crate::proofs::Turns::turn_ends))]
 fn run(pool: &mut [u32], mut h: Header, bytes: &[u8], answers: &mut [u32])
     requires { Ready pool.old h bytes.now answers.old }
