@@ -3,7 +3,7 @@
 -- Why: in a red-black tree no condition holds, and an update makes one hold only at one of the last four slots of a search for x
 -- (`update_covers_insert`, `update_covers_delete` of tree's UpdateWakes). These are the leaf where the search ends, its parent, and, by a search until
 -- the parent is met, the two slots before it (`end_is`). Assumes nothing.
-use Rattle.std.proofs.Common.{◌≡◌, ℕ, ◌+◌, ◌-◌, ◌<◌, ◌≤◌, false, eqb, ◌≢◌, List, [], ◌∷◌, sym, refl, ap, ◌∙◌, arith, le-leb}
+use Rattle.std.proofs.Common.{◌≡◌, ℕ, ◌+◌, ◌-◌, ◌<◌, ◌≤◌, false, eqb, ◌≢◌, List, [], ◌∷◌, sym, refl, ap, ◌∙◌, arith, le-leb, Bool}
 use mathlib.Core.Bool.{false≢true}
 use borrow.Author.Tests.{lt-leb}
 use lib.ListN.{length-replicate}
@@ -90,7 +90,7 @@ module _ (p : List ℕ) (x : ℕ) where
 abbrev Low : ℕ → Type 0
 Low n = 1 ≤ n → n ≤ most_slots
 
-four_awake : (m : List ℕ) → Long m → (c q : Pair) → All Low (c.one ∷ c.other ∷ q.one ∷ q.other ∷ [])
+four_awake : (m : List Bool) → Long m → (c q : Pair) → All Low (c.one ∷ c.other ∷ q.one ∷ q.other ∷ [])
     → AllAwake (Awake (wake_both (wake_both m c) q)) (c.one ∷ c.other ∷ q.one ∷ q.other ∷ [])
 unfolding All
 four_awake m long c q low =
@@ -112,7 +112,7 @@ module _ (S : State) (t : Tree) (sound : Sound S) (e : S.top ≡ full t) {h : He
       (λ i. rw (lt-leb x k i, end_from) (end_low b c v r gr lb lc (λ j. held_low S t sound e p shows (holds_node g gl gr))))
 
   asleep : Long all_asleep
-  asleep = length-replicate {A = ℕ} (most_blocks + most_groups) 0
+  asleep = length-replicate {A = Bool} (most_blocks + most_groups) false
 
   none_low : Low 0
   none_low i = omega arith
@@ -137,7 +137,7 @@ module _ (S : State) (t : Tree) (sound : Sound S) (e : S.top ≡ full t) {h : He
 
 way_long : (root : ℕ) (p : List ℕ) (x : ℕ) → Long (woken_way root p x all_asleep)
 unfolding woken_way
-way_long root p x = both_long _ _ (both_long all_asleep _ (length-replicate {A = ℕ} (most_blocks + most_groups) 0))
+way_long root p x = both_long _ _ (both_long all_asleep _ (length-replicate {A = Bool} (most_blocks + most_groups) false))
 
 -- Whatever was done, if a search for x ends where something may be allowed.
 module _ {h : Header} {p : List ℕ} {S : State} (sound : Sound S) (shows : Shows h p S) (x : ℕ) (ends : (t : Tree) → S.top ≡ full t → EndCovers x t) where

@@ -52,29 +52,29 @@ module _ (h : Header) (p : List ℕ) where
   abbrev FoundBy : Scan → Type 0
   FoundBy r = Allowing r.found
 
-  row_found : (row : ℕ) (below : ℕ → List ℕ → Scan) → ((i : ℕ) (m : List ℕ) → FoundBy (below i m)) → (n i : ℕ) (m : List ℕ) → FoundBy (row_from row below n i m)
+  row_found : (row : ℕ) (below : ℕ → List Bool → Scan) → ((i : ℕ) (m : List Bool) → FoundBy (below i m)) → (n i : ℕ) (m : List Bool) → FoundBy (row_from row below n i m)
   unfolding row_from
   row_found row below f zero i m = found_none
   row_found row below f (suc n) i m = go (is_awake m (row + i)) (row_found row below f n (suc i))
     where
-      scans : (r : Scan) → ((q : List ℕ) → FoundBy (row_from row below n (suc i) q)) → (o : Found Lowest) → Allowing o → FoundBy (elim o [
+      scans : (r : Scan) → ((q : List Bool) → FoundBy (row_from row below n (suc i) q)) → (o : Found Lowest) → Allowing o → FoundBy (elim o [
         | Some x ↦ scan (Some x) r.awake (1 + r.looks)
-        | None ↦ after (1 + r.looks) (row_from row below n (suc i) (set r.awake (row + i) 0))
+        | None ↦ after (1 + r.looks) (row_from row below n (suc i) (set r.awake (row + i) false))
       ])
       scans r rest (Some x) g = g
       scans r rest None g = rest _
 
-      go : (b : Bool) → ((q : List ℕ) → FoundBy (row_from row below n (suc i) q)) → FoundBy (elim b [
+      go : (b : Bool) → ((q : List Bool) → FoundBy (row_from row below n (suc i) q)) → FoundBy (elim b [
         | false ↦ after 1 (row_from row below n (suc i) m)
         | true ↦ let r = below i m in elim r.found [
           | Some x ↦ scan (Some x) r.awake (1 + r.looks)
-          | None ↦ after (1 + r.looks) (row_from row below n (suc i) (set r.awake (row + i) 0))
+          | None ↦ after (1 + r.looks) (row_from row below n (suc i) (set r.awake (row + i) false))
         ]
       ])
       go true rest = scans (below i m) rest (below i m).found (f i m)
       go false rest = rest m
 
-  found_allowed : (m : List ℕ) → FoundBy (first_awake h p m)
+  found_allowed : (m : List Bool) → FoundBy (first_awake h p m)
   unfolding first_awake in_group in_block
   found_allowed m = row_found (group_place 0) (in_group h p) (λ g q. row_found 0 (in_block h p) (λ b r. from_found _ _) _ _ q) _ 0 m
 

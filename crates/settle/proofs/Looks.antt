@@ -50,22 +50,22 @@ use Rattle.settle.proofs.KinShows.{hangs_held, hangs_slot, kin_short}
 use Rattle.settle.proofs.SettleShows.{with_tree, Stands, step_stands, all_covered}
 
 -- how many of the n numbers from the place `row` on are awake
-unfoldable pub awake_in : (row n : ℕ) → List ℕ → ℕ
+unfoldable pub awake_in : (row n : ℕ) → List Bool → ℕ
 awake_in row zero m = 0
 awake_in row (suc n) m = one (is_awake m row) + awake_in (suc row) n m
 
-pub awake_most : (row n : ℕ) (m : List ℕ) → awake_in row n m ≤ n
+pub awake_most : (row n : ℕ) (m : List Bool) → awake_in row n m ≤ n
 unfolding awake_in
 awake_most row zero m = omega arith
 awake_most row (suc n) m = omega (arith, one_most (is_awake m row), awake_most (suc row) n m)
 
-none_awake : (m : List ℕ) → ((j : ℕ) → is_awake m j ≡ false) → (row n : ℕ) → awake_in row n m ≡ 0
+none_awake : (m : List Bool) → ((j : ℕ) → is_awake m j ≡ false) → (row n : ℕ) → awake_in row n m ≡ 0
 unfolding awake_in one
 none_awake m f row zero = refl
 none_awake m f row (suc n) = rw (f row) (omega (arith, none_awake m f (suc row) n))
 
 -- Nothing is awake in m' that is not in m.
-abbrev Less : List ℕ → List ℕ → Type 0
+abbrev Less : List Bool → List Bool → Type 0
 Less m' m = (j : ℕ) → is_awake m' j ≡ true → is_awake m j ≡ true
 
 one_less : (b c : Bool) → (b ≡ true → c ≡ true) → one b ≤ one c
@@ -73,7 +73,7 @@ unfolding one
 one_less true c f = rw (f refl) (omega arith)
 one_less false c f = omega arith
 
-module _ (m' m : List ℕ) (less : Less m' m) where
+module _ (m' m : List Bool) (less : Less m' m) where
   less_awake : (row n : ℕ) → awake_in row n m' ≤ awake_in row n m
   unfolding awake_in
   less_awake row zero = omega arith
@@ -88,30 +88,30 @@ module _ (m' m : List ℕ) (less : Less m' m) where
       (λ d. omega (arith, one_less (is_awake m' row) (is_awake m row) (less row), fallen i e f (suc row) n (omega arith) (omega arith)))
 
 -- A number put in its place: other places stay as they are.
-put_other : (m : List ℕ) (i j x : ℕ) → j ≢ i → is_awake (set m i x) j ≡ is_awake m j
+put_other : (m : List Bool) (i j : ℕ) (x : Bool) → j ≢ i → is_awake (set m i x) j ≡ is_awake m j
 unfolding is_awake
-put_other m i j x n = rw (get_or-set_other m i j x 0 n)
+put_other m i j x n = rw (get_or-set_other m i j x false n)
 
-put_asleep : (m : List ℕ) (i : ℕ) → is_awake (set m i 0) i ≡ false
+put_asleep : (m : List Bool) (i : ℕ) → is_awake (set m i false) i ≡ false
 unfolding is_awake
 put_asleep m i = go (dec_lt i (length m))
   where
-    go : Dec (i < length m) → eqb (get_or (set m i 0) i 0) 1 ≡ false
-    go (yes l) = rw (get_or-set_same m i 0 0 l)
-    go (no l) = rw (get_or-eq_default (set m i 0) 0 {n = i} (omega (arith, length-set m i 0)))
+    go : Dec (i < length m) → get_or (set m i false) i false ≡ false
+    go (yes l) = rw (get_or-set_same m i false false l)
+    go (no l) = rw (get_or-eq_default (set m i false) false {n = i} (omega (arith, length-set m i false)))
 
-put_less : (m : List ℕ) (i : ℕ) → Less (set m i 0) m
+put_less : (m : List Bool) (i : ℕ) → Less (set m i false) m
 put_less m i j e = same_or_not j i
-    (λ s. absurd (false≢true (sym (put_asleep m i) ∙ (ap (is_awake (set m i 0)) (sym s) ∙ e))))
-    (λ n. sym (put_other m i j 0 n) ∙ e)
+    (λ s. absurd (false≢true (sym (put_asleep m i) ∙ (ap (is_awake (set m i false)) (sym s) ∙ e))))
+    (λ n. sym (put_other m i j false n) ∙ e)
 
-put_apart : (m : List ℕ) (i x row n : ℕ) → ((j : ℕ) → row ≤ j → j < row + n → j ≢ i) → awake_in row n (set m i x) ≡ awake_in row n m
+put_apart : (m : List Bool) (i : ℕ) (x : Bool) (row n : ℕ) → ((j : ℕ) → row ≤ j → j < row + n → j ≢ i) → awake_in row n (set m i x) ≡ awake_in row n m
 unfolding awake_in
 put_apart m i x row zero f = refl
 put_apart m i x row (suc n) f =
     rw (put_other m i row x (f row (omega arith) (omega arith)), put_apart m i x (suc row) n (λ j a b. f j (omega arith) (omega arith)))
 
-put_awake : (m : List ℕ) (i x row n : ℕ) → awake_in row n (set m i x) ≤ 1 + awake_in row n m
+put_awake : (m : List Bool) (i : ℕ) (x : Bool) (row n : ℕ) → awake_in row n (set m i x) ≤ 1 + awake_in row n m
 unfolding awake_in
 put_awake m i x row zero = omega arith
 put_awake m i x row (suc n) = same_or_not row i
@@ -130,33 +130,33 @@ found_most n None = omega arith
 
 -- The scan r, from m on, puts to sleep only; what it looks at is paid by what is owed less after it, but for `base` looks, and `extra` where it
 -- finds a step.
-record Costs (owed : List ℕ → ℕ) (base extra : ℕ) (m : List ℕ) (r : Scan) : Type 0 where
+record Costs (owed : List Bool → ℕ) (base extra : ℕ) (m : List Bool) (r : Scan) : Type 0 where
   pub less : Less r.awake m
   pub paid : r.looks + owed r.awake ≤ base + if_found extra r.found + owed m
 
 -- One row of `most` numbers, where what one speaks for costs `size`.
-module _ (row size most extra : ℕ) (below : ℕ → List ℕ → Scan) (owed : List ℕ → ℕ) (falls : (q m : List ℕ) → Less q m → owed q ≤ owed m)
-    (costs : (i : ℕ) (m : List ℕ) → i < most → Costs owed size extra m (below i m)) where
-  abbrev row_owes : List ℕ → ℕ
+module _ (row size most extra : ℕ) (below : ℕ → List Bool → Scan) (owed : List Bool → ℕ) (falls : (q m : List Bool) → Less q m → owed q ≤ owed m)
+    (costs : (i : ℕ) (m : List Bool) → i < most → Costs owed size extra m (below i m)) where
+  abbrev row_owes : List Bool → ℕ
   row_owes m = owed m + size * awake_in row most m
 
-  row_costs : (n i : ℕ) (m : List ℕ) → i + n ≤ most → Costs row_owes n (size + extra) m (row_from row below n i m)
+  row_costs : (n i : ℕ) (m : List Bool) → i + n ≤ most → Costs row_owes n (size + extra) m (row_from row below n i m)
   unfolding row_from if_found
   row_costs zero i m l = record { less = λ j e. e; paid = omega arith }
   row_costs (suc n) i m l = go (is_awake m (row + i)) refl (λ q. row_costs n (suc i) q (omega arith))
     where
       scans : (r : Scan) → Costs owed size extra m r → is_awake m (row + i) ≡ true
-          → ((q : List ℕ) → Costs row_owes n (size + extra) q (row_from row below n (suc i) q))
+          → ((q : List Bool) → Costs row_owes n (size + extra) q (row_from row below n (suc i) q))
           → (f : Found Lowest) → r.found ≡ f → Costs row_owes (suc n) (size + extra) m (elim f [
             | Some x ↦ scan (Some x) r.awake (1 + r.looks)
-            | None ↦ after (1 + r.looks) (row_from row below n (suc i) (set r.awake (row + i) 0))
+            | None ↦ after (1 + r.looks) (row_from row below n (suc i) (set r.awake (row + i) false))
           ])
       scans r c e more (Some x) is =
           let paid = rw (is, if_found) at c.paid in
           let fewer = mul-le-mul_left size (less_awake r.awake m c.less row most) in
           record { less = c.less; paid = omega arith }
       scans r c e more None is =
-          let q = set r.awake (row + i) 0 in
+          let q = set r.awake (row + i) false in
           let rest = more q in
           let less : Less q m = λ j a. c.less j (put_less r.awake (row + i) j a) in
           let paid = rw (is, if_found) at c.paid in
@@ -165,12 +165,12 @@ module _ (row size most extra : ℕ) (below : ℕ → List ℕ → Scan) (owed :
           let then = rest.paid in
           record { less = λ j a. less j (rest.less j a); paid = omega arith }
 
-      go : (b : Bool) → is_awake m (row + i) ≡ b → ((q : List ℕ) → Costs row_owes n (size + extra) q (row_from row below n (suc i) q))
+      go : (b : Bool) → is_awake m (row + i) ≡ b → ((q : List Bool) → Costs row_owes n (size + extra) q (row_from row below n (suc i) q))
           → Costs row_owes (suc n) (size + extra) m (elim b [
             | false ↦ after 1 (row_from row below n (suc i) m)
             | true ↦ let r = below i m in elim r.found [
               | Some x ↦ scan (Some x) r.awake (1 + r.looks)
-              | None ↦ after (1 + r.looks) (row_from row below n (suc i) (set r.awake (row + i) 0))
+              | None ↦ after (1 + r.looks) (row_from row below n (suc i) (set r.awake (row + i) false))
             ]
           ])
       go true e more = scans (below i m) (costs i m (omega arith)) e more (below i m).found refl
@@ -184,14 +184,14 @@ abbrev groups : ℕ → ℕ
 groups c = 1 + block_of c / group_size
 
 -- how many of their numbers are awake,
-abbrev pub awake_blocks : ℕ → List ℕ → ℕ
+abbrev pub awake_blocks : ℕ → List Bool → ℕ
 awake_blocks c m = awake_in 0 (blocks c) m
 
-abbrev pub awake_groups : ℕ → List ℕ → ℕ
+abbrev pub awake_groups : ℕ → List Bool → ℕ
 awake_groups c m = awake_in (group_place 0) (groups c) m
 
 -- and what is owed: what each speaks for.
-abbrev pub owed : ℕ → List ℕ → ℕ
+abbrev pub owed : ℕ → List Bool → ℕ
 owed c m = block_size * awake_blocks c m + group_size * awake_groups c m
 
 -- one scan: the groups' numbers, the block and the group in which the step is found, and what is owed less
@@ -199,11 +199,11 @@ abbrev pub looks_scan : ℕ → ℕ
 looks_scan c = 41 + c / 256
 
 module _ (h : Header) (p : List ℕ) where
-  block_costs : (b : ℕ) (m : List ℕ) → Costs (λ q. 0) block_size 0 m (in_block h p b m)
+  block_costs : (b : ℕ) (m : List Bool) → Costs (λ q. 0) block_size 0 m (in_block h p b m)
   unfolding in_block
   block_costs b m = record { less = λ j e. e; paid = omega arith }
 
-  group_costs : (g : ℕ) (m : List ℕ) → g < groups (last_slot p)
+  group_costs : (g : ℕ) (m : List Bool) → g < groups (last_slot p)
       → Costs (λ q. 0 + block_size * awake_blocks (last_slot p) q) group_size block_size m (in_group h p g m)
   unfolding in_group
   group_costs g m l =
@@ -212,7 +212,7 @@ module _ (h : Header) (p : List ℕ) where
       let paid = c.paid in
       record { less = c.less; paid = omega arith }
 
-  pub scan_looks : (m : List ℕ) → (first_awake h p m).looks + owed (last_slot p) (first_awake h p m).awake ≤ looks_scan (last_slot p) + owed (last_slot p) m
+  pub scan_looks : (m : List Bool) → (first_awake h p m).looks + owed (last_slot p) (first_awake h p m).awake ≤ looks_scan (last_slot p) + owed (last_slot p) m
   unfolding first_awake
   scan_looks m =
       let last = last_slot p in
@@ -222,47 +222,47 @@ module _ (h : Header) (p : List ℕ) where
 
 -- To wake a slot adds at most one to each row.
 module _ (c : ℕ) (few : c ≤ most_slots) where
-  wake_owes : (m : List ℕ) (s : ℕ) → owed c (wake m s) ≤ 40 + owed c m
+  wake_owes : (m : List Bool) (s : ℕ) → owed c (wake m s) ≤ 40 + owed c m
   unfolding wake
   wake_owes m s = go (eqb s 0)
     where
       b : ℕ
       b = block_of s
 
-      m₁ : List ℕ
-      m₁ = set m b 1
+      m₁ : List Bool
+      m₁ = set m b true
 
       more_blocks : awake_blocks c (wake_block m b) ≤ 1 + awake_blocks c m
-      more_blocks = omega (arith, put_awake m b 1 0 (blocks c), put_apart m₁ (group_place (b / group_size)) 1 0 (blocks c) (λ j x y e. omega arith))
+      more_blocks = omega (arith, put_awake m b true 0 (blocks c), put_apart m₁ (group_place (b / group_size)) true 0 (blocks c) (λ j x y e. omega arith))
 
       -- A number past the blocks would be a group's: then the block's own group is past the groups.
       more_groups : Dec (b < most_blocks) → awake_groups c (wake_block m b) ≤ 1 + awake_groups c m
       more_groups (yes l) = omega (
         arith,
-        put_apart m b 1 (group_place 0) (groups c) (λ j x y e. omega arith),
-        put_awake m₁ (group_place (b / group_size)) 1 (group_place 0) (groups c),
+        put_apart m b true (group_place 0) (groups c) (λ j x y e. omega arith),
+        put_awake m₁ (group_place (b / group_size)) true (group_place 0) (groups c),
       )
       more_groups (no l) = omega (
         arith,
-        put_awake m b 1 (group_place 0) (groups c),
-        put_apart m₁ (group_place (b / group_size)) 1 (group_place 0) (groups c) (λ j x y e. omega arith),
+        put_awake m b true (group_place 0) (groups c),
+        put_apart m₁ (group_place (b / group_size)) true (group_place 0) (groups c) (λ j x y e. omega arith),
       )
 
       go : (t : Bool) → owed c (elim t [ true ↦ m | false ↦ wake_block m (block_of s) ]) ≤ 40 + owed c m
       go true = omega arith
       go false = omega (arith, more_blocks, more_groups (dec_lt b most_blocks))
 
-  both_owe : (m : List ℕ) (q : Pair) → owed c (wake_both m q) ≤ 80 + owed c m
+  both_owe : (m : List Bool) (q : Pair) → owed c (wake_both m q) ≤ 80 + owed c m
   both_owe m q = omega (arith, wake_owes (wake m q.one) q.other, wake_owes m q.one)
 
-  four_owe : (m : List ℕ) (a b : Pair) → owed c (wake_both (wake_both m a) b) ≤ 160 + owed c m
+  four_owe : (m : List Bool) (a b : Pair) → owed c (wake_both (wake_both m a) b) ≤ 160 + owed c m
   four_owe m a b = omega (arith, both_owe (wake_both m a) b, both_owe m a)
 
-  pub woken_owes : (h : Header) (p : List ℕ) (s : ℕ) (k : Kind) (a : Around) (m : List ℕ) → owed c (woken h p s k a m) ≤ 160 + owed c m
+  pub woken_owes : (h : Header) (p : List ℕ) (s : ℕ) (k : Kind) (a : Around) (m : List Bool) → owed c (woken h p s k a m) ≤ 160 + owed c m
   unfolding woken
   woken_owes h p s k a m = four_owe m (woken_below k a) _
 
-  pub way_owes : (root : ℕ) (p : List ℕ) (x : ℕ) (m : List ℕ) → owed c (woken_way root p x m) ≤ 160 + owed c m
+  pub way_owes : (root : ℕ) (p : List ℕ) (x : ℕ) (m : List Bool) → owed c (woken_way root p x m) ≤ 160 + owed c m
   unfolding woken_way
   way_owes root p x m = four_owe m _ _
 
@@ -292,7 +292,7 @@ module _ (S : State) (t : Tree) (sound : Sound S) (e : S.top ≡ full t) {h : He
       go false i = omega arith
 
 -- A settle that takes the trees us after t, with m awake at first: n looks for each step will do.
-abbrev pub bounded : (c n : ℕ) → List ℕ → Tree → List Tree → ℕ
+abbrev pub bounded : (c n : ℕ) → List Bool → Tree → List Tree → ℕ
 bounded c n m t us = looks_scan c + owed c m + length us * n + depths (t ∷ us)
 
 module _ (S : State) (n : ℕ) (enough : 168 + looks_scan S.slots ≤ n) where
@@ -312,7 +312,7 @@ module _ (S : State) (n : ℕ) (enough : 168 + looks_scan S.slots ≤ n) where
       p : List ℕ
       p = P.words
 
-      m : List ℕ
+      m : List Bool
       m = (scanned P).awake
 
       finds : (scanned P).found ≡ lowest_of p (lowest_step S.slots 1 t)
@@ -339,7 +339,7 @@ module _ (S : State) (n : ℕ) (enough : 168 + looks_scan S.slots ≤ n) where
       go none e rest = omega (arith, stands_scan P t x)
 
 -- From any beginning in which every slot that allows a step is awake.
-module _ {h : Header} {p : List ℕ} {S : State} (sound : Sound S) (shows : Shows h p S) (m : List ℕ) (covered : Cover h p m) (budget : ℕ) where
+module _ {h : Header} {p : List ℕ} {S : State} (sound : Sound S) (shows : Shows h p S) (m : List Bool) (covered : Cover h p m) (budget : ℕ) where
   pub looks_full : Long m → (t : Tree) → S.top ≡ full t
       → looks_from budget (pool_of h p m) ≤ bounded S.slots (looks_step S.slots) m t (trees_after S.slots budget t)
   looks_full long t e =
@@ -369,7 +369,7 @@ all_owed c few = omega (arith, awake_most 0 (blocks c) all_awake, awake_most (gr
 pub settle_looks_lem : {h : Header} {p : List ℕ} {S : State} → Sound S → Shows h p S → (t : Tree) → S.top ≡ full t → (budget : ℕ)
     → let us = trees_after S.slots budget t in settle_looks p h budget ≤ looks_once S.slots + length us * looks_step S.slots + depths (t ∷ us)
 settle_looks_lem {h} {p} {S} sound shows t e b =
-    let f = looks_full sound shows all_awake (all_covered h p) b (length-replicate {A = ℕ} (most_blocks + most_groups) 1) t e in
+    let f = looks_full sound shows all_awake (all_covered h p) b (length-replicate {A = Bool} (most_blocks + most_groups) true) t e in
     omega (arith, f, all_owed S.slots sound.few)
 
 pub settle_looks_empty : {h : Header} {p : List ℕ} {S : State} → Sound S → Shows h p S → S.top ≡ empty → (budget : ℕ)
@@ -382,11 +382,11 @@ in_none : (i : ℕ) → is_awake all_asleep i ≡ false
 unfolding is_awake
 in_none i = go (dec_lt i (most_blocks + most_groups))
   where
-    go : Dec (i < most_blocks + most_groups) → eqb (get_or all_asleep i 0) 1 ≡ false
-    go (yes l) = rw (get_or-replicate {A = ℕ} (most_blocks + most_groups) i 0 0 l)
-    go (no l) = rw (get_or-eq_default all_asleep 0 {n = i} (omega (arith, length-replicate {A = ℕ} (most_blocks + most_groups) 0)))
+    go : Dec (i < most_blocks + most_groups) → get_or all_asleep i false ≡ false
+    go (yes l) = rw (get_or-replicate {A = Bool} (most_blocks + most_groups) i false false l)
+    go (no l) = rw (get_or-eq_default all_asleep false {n = i} (omega (arith, length-replicate {A = Bool} (most_blocks + most_groups) false)))
 
-way_long : (root : ℕ) (p : List ℕ) (x : ℕ) (m : List ℕ) → Long m → Long (woken_way root p x m)
+way_long : (root : ℕ) (p : List ℕ) (x : ℕ) (m : List Bool) → Long m → Long (woken_way root p x m)
 unfolding woken_way
 way_long root p x m l = both_long (wake_both m _) _ (both_long m _ l)
 
@@ -399,7 +399,7 @@ pub settle_after_looks : {h : Header} {p : List ℕ} {S : State} → Sound S →
     → let us = trees_after S.slots budget t in
     looks_from budget (pool_of h p (woken_way h.root p x all_asleep)) ≤ 201 + S.slots / 256 + length us * looks_step S.slots + depths (t ∷ us)
 settle_after_looks {h} {p} {S} sound shows x covered t e b =
-    let long = way_long h.root p x all_asleep (length-replicate {A = ℕ} (most_blocks + most_groups) 0) in
+    let long = way_long h.root p x all_asleep (length-replicate {A = Bool} (most_blocks + most_groups) false) in
     let f = looks_full sound shows _ covered b long t e in
     omega (arith, f, way_owed S.slots sound.few h.root p x)
 

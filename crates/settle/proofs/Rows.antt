@@ -27,17 +27,17 @@ or_else (Some x) f = Some x
 or_else None f = f
 
 -- the number of a block and of its group are those of a slot
-pub record Awake (m : List ℕ) (x : ℕ) : Type 0 where
+pub record Awake (m : List Bool) (x : ℕ) : Type 0 where
   pub block : is_awake m (block_of x) ≡ true
   pub group : is_awake m (group_place (block_of x / group_size)) ≡ true
 
-still_awake : (m : List ℕ) (i j : ℕ) → j ≢ i → is_awake m j ≡ true → is_awake (set m i 0) j ≡ true
+still_awake : (m : List Bool) (i j : ℕ) → j ≢ i → is_awake m j ≡ true → is_awake (set m i false) j ≡ true
 unfolding is_awake
-still_awake m i j n e = rw (get_or-set_other m i j 0 0 n) e
+still_awake m i j n e = rw (get_or-set_other m i j false false n) e
 
 module _ (h : Header) (p : List ℕ) where
   -- every slot that allows a step is awake
-  abbrev pub Cover : List ℕ → Type 0
+  abbrev pub Cover : List Bool → Type 0
   Cover m = (x : ℕ) (k : Kind) → allowed_words k h p x ≡ true → Awake m x
 
   -- no step is allowed at the n slots from s on
@@ -118,11 +118,11 @@ module _ (h : Header) (p : List ℕ) where
     pub kept : Cover r.awake
 
   -- One row. Its number i speaks for the `size` slots from size * i on.
-  module _ (row size most : ℕ) (below : ℕ → List ℕ → Scan)
-      (speaks : (m : List ℕ) (i x : ℕ) → i < most → size * i ≤ x → x < size * i + size → Awake m x → is_awake m (row + i) ≡ true)
-      (sleeps : (m : List ℕ) (i : ℕ) → i < most → Quiet size (size * i) → Cover m → Cover (set m (row + i) 0))
-      (finds : (m : List ℕ) (i : ℕ) → i < most → Cover m → Finds size (size * i) (below i m)) where
-    row_finds : (n i : ℕ) (m : List ℕ) → i + n ≤ most → Cover m → Finds (n * size) (size * i) (row_from row below n i m)
+  module _ (row size most : ℕ) (below : ℕ → List Bool → Scan)
+      (speaks : (m : List Bool) (i x : ℕ) → i < most → size * i ≤ x → x < size * i + size → Awake m x → is_awake m (row + i) ≡ true)
+      (sleeps : (m : List Bool) (i : ℕ) → i < most → Quiet size (size * i) → Cover m → Cover (set m (row + i) false))
+      (finds : (m : List Bool) (i : ℕ) → i < most → Cover m → Finds size (size * i) (below i m)) where
+    row_finds : (n i : ℕ) (m : List Bool) → i + n ≤ most → Cover m → Finds (n * size) (size * i) (row_from row below n i m)
     unfolding row_from first_from or_else
     row_finds zero i m l cover = let z : 0 * size ≡ 0 = omega arith in record { same = rw z; kept = cover }
     row_finds (suc n) i m l cover = go (is_awake m (row + i)) refl (λ q k. row_finds n (suc i) q (omega arith) k)
@@ -144,10 +144,10 @@ module _ (h : Header) (p : List ℕ) where
             go true f = absurd (false≢true (sym e ∙ speaks m i x (omega arith) a b (cover x k f)))
             go false f = refl
 
-        scans : (r : Scan) → Finds size (size * i) r → ((q : List ℕ) → Cover q → Finds (n * size) (size * suc i) (row_from row below n (suc i) q))
+        scans : (r : Scan) → Finds size (size * i) r → ((q : List Bool) → Cover q → Finds (n * size) (size * suc i) (row_from row below n (suc i) q))
             → (f : Found Lowest) → r.found ≡ f → Finds (suc n * size) (size * i) (elim f [
               | Some x ↦ scan (Some x) r.awake (1 + r.looks)
-              | None ↦ after (1 + r.looks) (row_from row below n (suc i) (set r.awake (row + i) 0))
+              | None ↦ after (1 + r.looks) (row_from row below n (suc i) (set r.awake (row + i) false))
             ])
         scans r f more (Some x) e = record {
           same = ap (λ g. or_else g (first_from (n * size) h p (size * i + size))) (sym e ∙ f.same) ∙ (sym (from_append size (n * size) (size * i)) ∙ ap (λ a. first_from a h p (size * i)) (sym parts));
@@ -157,29 +157,29 @@ module _ (h : Header) (p : List ℕ) where
             let q = none_quiet size (size * i) (sym f.same ∙ e) in
             rest q (more _ (sleeps r.awake i (omega arith) q f.kept)) (1 + r.looks)
 
-        go : (b : Bool) → is_awake m (row + i) ≡ b → ((q : List ℕ) → Cover q → Finds (n * size) (size * suc i) (row_from row below n (suc i) q))
+        go : (b : Bool) → is_awake m (row + i) ≡ b → ((q : List Bool) → Cover q → Finds (n * size) (size * suc i) (row_from row below n (suc i) q))
             → Finds (suc n * size) (size * i) (elim b [
               | false ↦ after 1 (row_from row below n (suc i) m)
               | true ↦ let r = below i m in elim r.found [
                 | Some x ↦ scan (Some x) r.awake (1 + r.looks)
-                | None ↦ after (1 + r.looks) (row_from row below n (suc i) (set r.awake (row + i) 0))
+                | None ↦ after (1 + r.looks) (row_from row below n (suc i) (set r.awake (row + i) false))
               ]
             ])
         go true e more = scans (below i m) (finds m i (omega arith) cover) more (below i m).found refl
         go false e more = rest (asleep e) (more m cover) 1
 
   -- the blocks of a group
-  block_sleeps : (m : List ℕ) (i : ℕ) → i < most_blocks → Quiet block_size (block_size * i) → Cover m → Cover (set m (0 + i) 0)
+  block_sleeps : (m : List Bool) (i : ℕ) → i < most_blocks → Quiet block_size (block_size * i) → Cover m → Cover (set m (0 + i) false)
   block_sleeps m i l q cover x k e =
       let a = cover x k e in
       let other : block_of x ≢ 0 + i = λ same. false≢true (sym (q x k (omega arith) (omega arith)) ∙ e) in
       record { block = still_awake m (0 + i) (block_of x) other a.block; group = still_awake m (0 + i) (group_place (block_of x / group_size)) (λ same. omega arith) a.group }
 
-  block_finds : (m : List ℕ) (i : ℕ) → Cover m → Finds block_size (block_size * i) (in_block h p i m)
+  block_finds : (m : List Bool) (i : ℕ) → Cover m → Finds block_size (block_size * i) (in_block h p i m)
   unfolding in_block
   block_finds m i cover = record { same = refl; kept = cover }
 
-  blocks_find : (n i : ℕ) (m : List ℕ) → i + n ≤ most_blocks → Cover m → Finds (n * block_size) (block_size * i) (row_from 0 (in_block h p) n i m)
+  blocks_find : (n i : ℕ) (m : List Bool) → i + n ≤ most_blocks → Cover m → Finds (n * block_size) (block_size * i) (row_from 0 (in_block h p) n i m)
   blocks_find n i m l cover = row_finds 0 block_size most_blocks (in_block h p)
       (λ q j x b from to a. let e : block_of x ≡ 0 + j = omega arith in rw (sym e) a.block)
       block_sleeps (λ q j b c. block_finds q j c) n i m l cover
@@ -196,7 +196,7 @@ module _ (h : Header) (p : List ℕ) where
   abbrev group_slots : ℕ
   group_slots = block_size * group_size
 
-  group_sleeps : (m : List ℕ) (g : ℕ) → g < most_groups → Quiet group_slots (group_slots * g) → Cover m → Cover (set m (group_place 0 + g) 0)
+  group_sleeps : (m : List Bool) (g : ℕ) → g < most_groups → Quiet group_slots (group_slots * g) → Cover m → Cover (set m (group_place 0 + g) false)
   group_sleeps m g l q cover x k e =
       let a = cover x k e in
       let inside = allowed_slot x k e in
@@ -204,7 +204,7 @@ module _ (h : Header) (p : List ℕ) where
       record { block = still_awake m (group_place 0 + g) (block_of x) (λ same. omega arith) a.block; group = still_awake m (group_place 0 + g) _ other a.group }
 
   -- the blocks of a group after that of the last slot are not scanned
-  group_finds : (m : List ℕ) (g : ℕ) → g < most_groups → Cover m → Finds group_slots (group_slots * g) (in_group h p g m)
+  group_finds : (m : List Bool) (g : ℕ) → g < most_groups → Cover m → Finds group_slots (group_slots * g) (in_group h p g m)
   unfolding in_group
   group_finds m g l cover =
       let f = blocks_find (blocks_in p g) (group_size * g) m (omega arith) cover in
@@ -216,7 +216,7 @@ module _ (h : Header) (p : List ℕ) where
       after_last : Quiet (group_slots - blocks_in p g * block_size) (group_slots * g + blocks_in p g * block_size)
       after_last x k a b = beyond (group_slots - blocks_in p g * block_size) (group_slots * g + blocks_in p g * block_size) (omega arith) x k a b
 
-  module _ (m : List ℕ) (cover : Cover m) where
+  module _ (m : List Bool) (cover : Cover m) where
     finds_first : Finds (last_slot p) 1 (first_awake h p m)
     unfolding first_awake
     finds_first =

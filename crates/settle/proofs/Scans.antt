@@ -90,7 +90,7 @@ unfolding first_from
 slots_end h p n s e = rw e
 
 -- A row of numbers, at the number i: it is asleep, what it speaks for allows a step, or allows nothing; and the row's end.
-module _ (row : ℕ) (below : ℕ → List ℕ → Scan) (n m i : ℕ) (q : List ℕ) where
+module _ (row : ℕ) (below : ℕ → List Bool → Scan) (n m i : ℕ) (q : List Bool) where
   pub row_asleep : n ≡ m + 1 → is_awake q (row + i) ≡ false → row_from row below n i q ≡ after 1 (row_from row below m (i + 1) q)
   unfolding row_from
   row_asleep e f = rw (e, add-one m, f, row_from, add-one i)
@@ -101,11 +101,11 @@ module _ (row : ℕ) (below : ℕ → List ℕ → Scan) (n m i : ℕ) (q : List
   row_found e f x g = rw (e, add-one m, f, row_from, g)
 
   pub row_nothing : n ≡ m + 1 → is_awake q (row + i) ≡ true → (below i q).found ≡ None
-      → row_from row below n i q ≡ after (1 + (below i q).looks) (row_from row below m (i + 1) (set (below i q).awake (row + i) 0))
+      → row_from row below n i q ≡ after (1 + (below i q).looks) (row_from row below m (i + 1) (set (below i q).awake (row + i) false))
   unfolding row_from
   row_nothing e f g = rw (e, add-one m, f, row_from, g, add-one i)
 
-pub row_end : (row : ℕ) (below : ℕ → List ℕ → Scan) (n i : ℕ) (q : List ℕ) → n ≡ 0 → row_from row below n i q ≡ scan None q 0
+pub row_end : (row : ℕ) (below : ℕ → List Bool → Scan) (n i : ℕ) (q : List Bool) → n ≡ 0 → row_from row below n i q ≡ scan None q 0
 unfolding row_from
 row_end row below n i q e = rw e
 
@@ -129,14 +129,14 @@ pub record Same (r q : Scan) : Type 0 where
   pub leaves : r.awake ≡ q.awake
 
 -- A row from here goes as the scan R: so does what is left of it. Its next number stands at the place j.
-module _ (row : ℕ) (below : ℕ → List ℕ → Scan) (n m i : ℕ) (q : List ℕ) (R : Scan) (same : Same (row_from row below n i q) R) where
+module _ (row : ℕ) (below : ℕ → List Bool → Scan) (n m i : ℕ) (q : List Bool) (R : Scan) (same : Same (row_from row below n i q) R) where
   module _ (j : ℕ) (place : j ≡ row + i) where
     pub same_asleep : n ≡ m + 1 → is_awake q j ≡ false → Same (row_from row below m (i + 1) q) R
     same_asleep e f =
         let x = row_asleep row below n m i q e (rw place at f) in
         record { finds = sym (ap (λ (r : Scan). r.found) x) ∙ same.finds; leaves = sym (ap (λ (r : Scan). r.awake) x) ∙ same.leaves }
 
-    pub same_nothing : n ≡ m + 1 → is_awake q j ≡ true → (below i q).found ≡ None → {q' : List ℕ} → q' ≡ set (below i q).awake j 0
+    pub same_nothing : n ≡ m + 1 → is_awake q j ≡ true → (below i q).found ≡ None → {q' : List Bool} → q' ≡ set (below i q).awake j false
         → Same (row_from row below m (i + 1) q') R
     same_nothing e f g z =
         let x = row_nothing row below n m i q e (rw place at f) g in
@@ -154,20 +154,20 @@ module _ (row : ℕ) (below : ℕ → List ℕ → Scan) (n m i : ℕ) (q : List
       (sym (ap (λ (r : Scan). r.found) x) ∙ same.finds, sym (ap (λ (r : Scan). r.awake) x) ∙ same.leaves)
 
 -- what the code finds in a block, whose slots it knows by the first and the one after the last
-pub block_found : (h : Header) (p : List ℕ) (b : ℕ) (m : List ℕ) → (in_block h p b m).found ≡ first_from (block_size * b + block_size - block_size * b) h p (block_size * b)
+pub block_found : (h : Header) (p : List ℕ) (b : ℕ) (m : List Bool) → (in_block h p b m).found ≡ first_from (block_size * b + block_size - block_size * b) h p (block_size * b)
 unfolding in_block
 block_found h p b m = let e : block_size * b + block_size - block_size * b ≡ block_size = omega arith in rw e
 
-pub block_leaves : (h : Header) (p : List ℕ) (b : ℕ) (m : List ℕ) → (in_block h p b m).awake ≡ m
+pub block_leaves : (h : Header) (p : List ℕ) (b : ℕ) (m : List Bool) → (in_block h p b m).awake ≡ m
 unfolding in_block
 block_leaves h p b m = refl
 
-pub group_begins : (h : Header) (p : List ℕ) (g : ℕ) (m : List ℕ) {n i : ℕ} → n ≡ blocks_in p g → i ≡ group_size * g
+pub group_begins : (h : Header) (p : List ℕ) (g : ℕ) (m : List Bool) {n i : ℕ} → n ≡ blocks_in p g → i ≡ group_size * g
     → Same (row_from 0 (in_block h p) n i m) (in_group h p g m)
 unfolding in_group
 group_begins h p g m e f = rw (e, f) record { finds = refl; leaves = refl }
 
-pub groups_begin : (h : Header) (p m : List ℕ) {n i : ℕ} → n ≡ 1 + block_of (last_slot p) / group_size → i ≡ 0
+pub groups_begin : (h : Header) (p : List ℕ) (m : List Bool) {n i : ℕ} → n ≡ 1 + block_of (last_slot p) / group_size → i ≡ 0
     → Same (row_from (group_place 0) (in_group h p) n i m) (first_awake h p m)
 unfolding first_awake
 groups_begin h p m e f = rw (e, f) record { finds = refl; leaves = refl }

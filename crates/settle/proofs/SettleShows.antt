@@ -4,7 +4,7 @@
 -- the lowest (Rows.antt, AllowedShows.antt), its effect is the definition's (EffectShows.antt of crate kinds), an allowed step keeps the State
 -- sound (StepState.antt of crate tree), and what it wakes is enough (WakeShows.antt). By induction on the budget, from any beginning in which every
 -- slot that allows a step is awake (`awake_shows`); the command begins with all slots awake. Assumes nothing.
-use Rattle.std.proofs.Common.{◌≡◌, ℕ, zero, suc, ◌+◌, ◌/◌, ◌<◌, true, List, [], ◌∷◌, length, sym, refl, ap, ◌∙◌, arith}
+use Rattle.std.proofs.Common.{◌≡◌, ℕ, zero, suc, ◌+◌, ◌/◌, ◌<◌, true, List, [], ◌∷◌, length, sym, refl, ap, ◌∙◌, arith, Bool, false}
 use mathlib.Core.Option.{Option, none, some}
 use lib.ListN.{length-replicate, get_or-replicate}
 use Rattle.tree.specs.declared.Kind.{Kind}
@@ -110,7 +110,7 @@ module _ (S : State) where
   settled_same neither e = ap Done e
   settled_same (both y) e = ap Spent e
 
-module _ {h : Header} {p : List ℕ} {S : State} (sound : Sound S) (shows : Shows h p S) (m : List ℕ) (long : Long m) (covered : Cover h p m) (budget : ℕ) where
+module _ {h : Header} {p : List ℕ} {S : State} (sound : Sound S) (shows : Shows h p S) (m : List Bool) (long : Long m) (covered : Cover h p m) (budget : ℕ) where
   -- In an empty tree nothing is allowed.
   settles_empty : S.top ≡ empty → Does (settle_from m p h budget) (settle budget S)
   unfolding settle_from last_of settled
@@ -138,7 +138,7 @@ module _ {h : Header} {p : List ℕ} {S : State} (sound : Sound S) (shows : Show
 -- all slots awake
 in_all : (i : ℕ) → i < most_blocks + most_groups → is_awake all_awake i ≡ true
 unfolding is_awake
-in_all i l = rw (get_or-replicate {A = ℕ} (most_blocks + most_groups) i 1 0 l)
+in_all i l = rw (get_or-replicate {A = Bool} (most_blocks + most_groups) i true false l)
 
 pub all_covered : (h : Header) (p : List ℕ) → Cover h p all_awake
 all_covered h p x k e =
@@ -146,7 +146,7 @@ all_covered h p x k e =
     record { block = in_all (block_of x) (omega arith); group = in_all (group_place (block_of x / group_size)) (omega arith) }
 
 pub settle_shows : {h : Header} {p : List ℕ} {S : State} → Sound S → Shows h p S → (budget : ℕ) → Does (settle_under p h budget) (settle budget S)
-settle_shows {h} {p} sound shows b = awake_shows sound shows all_awake (length-replicate {A = ℕ} (most_blocks + most_groups) 1) (all_covered h p) b
+settle_shows {h} {p} sound shows b = awake_shows sound shows all_awake (length-replicate {A = Bool} (most_blocks + most_groups) true) (all_covered h p) b
 
 -- the same, of a pool
 pub settle_entry : {p : List ℕ} {S : State} → Sound S → PoolShows p S → (budget : ℕ)

@@ -1,6 +1,6 @@
 -- Settle on words, turn by turn. `Turn` says that n steps have been taken and what is left to do from here is what was left from the
 -- start: the pools from there are n more, and the last one is the same. Assumes nothing.
-use Rattle.std.proofs.Common.{◌≡◌, ℕ, zero, suc, ◌+◌, ◌-◌, ◌<◌, List, [], ◌∷◌, length, sym, refl, ap, ◌∙◌, add-one, arith}
+use Rattle.std.proofs.Common.{◌≡◌, ℕ, zero, suc, ◌+◌, ◌-◌, ◌<◌, List, [], ◌∷◌, length, sym, refl, ap, ◌∙◌, add-one, arith, Bool}
 use mathlib.Core.Option.{Option, none, some}
 use Rattle.tree.specs.declared.Answer.{Answer}
 use Rattle.tree.specs.declared.Answer.TheVariants.{Done, Spent}
@@ -45,7 +45,7 @@ last_some : (P Q : Pool) {Qs Rs : List Pool} → Qs ≡ Q ∷ Rs → last_of P Q
 unfolding last_of
 last_some P Q e = rw e
 
-module _ (h : Header) (b : ℕ) (p₀ m₀ : List ℕ) where
+module _ (h : Header) (b : ℕ) (p₀ : List ℕ) (m₀ : List Bool) where
   pub record Turn (n : ℕ) (P : Pool) : Type 0 where
     pub taken : length (pools_after b (pool_of h p₀ m₀)) ≡ n + length (pools_after (b - n) P)
     pub last : last_of (pool_of h p₀ m₀) (pools_after b (pool_of h p₀ m₀)) ≡ last_of P (pools_after (b - n) P)
@@ -61,7 +61,7 @@ module _ (h : Header) (b : ℕ) (p₀ m₀ : List ℕ) where
 
   module _ (n : ℕ) (P : Pool) (t : Turn n P) where
     pub turn : {f : Found Lowest} → f ≡ (scanned P).found → (x : Lowest) → f ≡ Some x → n < b
-        → {g : Header} {q m : List ℕ} → g ≡ header_after x.kind x.slot P.header → q ≡ taken_words P.header.root P.words x.slot x.kind x.around
+        → {g : Header} {q : List ℕ} {m : List Bool} → g ≡ header_after x.kind x.slot P.header → q ≡ taken_words P.header.root P.words x.slot x.kind x.around
         → m ≡ woken P.header P.words x.slot x.kind x.around (scanned P).awake → Turn (n + 1) (pool_of g q m)
     turn ef x e l {g} {q} {m} eg eq em =
         let next : next_pool P ≡ some (pool_of g q m) = rw (eg, eq, em) (next_some P x (sym ef ∙ e)) in

@@ -54,7 +54,7 @@ weight_same Lighten w u h = rw (mod-eq_of_lt h) (omega arith)
 weight_same LightenLeft w u h = refl
 weight_same LightenRight w u h = refl
 
-pub woken_long : (h : Header) (p : List ℕ) (s : ℕ) (k : Kind) (a : Around) (m : List ℕ) → Long m → Long (woken h p s k a m)
+pub woken_long : (h : Header) (p : List ℕ) (s : ℕ) (k : Kind) (a : Around) (m : List Bool) → Long m → Long (woken h p s k a m)
 unfolding woken
 woken_long h p s k a m l = both_long (wake_both m (woken_below k a)) _ (both_long m (woken_below k a) l)
 
@@ -83,10 +83,10 @@ left_of w (node s k wl l wr r) = refl
 
 module _ (S : State) (t : Tree) (sound : Sound S) (e : S.top ≡ full t) {h : Header} (p : List ℕ) (shows : Shows h p S) where
   -- What is awake, of words and of the tree.
-  pub cover_covers : (m : List ℕ) → Cover h p m → Covers (Awake m) t
+  pub cover_covers : (m : List Bool) → Cover h p m → Covers (Awake m) t
   cover_covers m c x j i a = c x j (allowed_shows S t sound e p shows j x ∙ a)
 
-  pub covers_cover : (m : List ℕ) → Covers (Awake m) t → Cover h p m
+  pub covers_cover : (m : List Bool) → Covers (Awake m) t → Cover h p m
   covers_cover m c x k a = c x k (allowed_slot h p x k a).0 (sym (allowed_shows S t sound e p shows k x) ∙ a)
 
   -- slots that the words hold
@@ -113,7 +113,7 @@ module _ (S : State) (t : Tree) (sound : Sound S) (e : S.top ≡ full t) {h : He
   proper = record { chromatic = (tree_good S t sound e).chromatic; once = tree_once S t sound e }
 
   -- Below the step, at a node v: the slots that it wakes are awake, whatever else is woken after.
-  module _ (m : List ℕ) (long : Long m) (w v i wl wr : ℕ) (l r : Tree) (hl : Holds p wl l) (hr : Holds p wr r) where
+  module _ (m : List Bool) (long : Long m) (w v i wl wr : ℕ) (l r : Tree) (hl : Holds p wl l) (hr : Holds p wr r) where
     first : (c q : Pair) (n : ℕ) → c.one ≡ n → Low n → 1 ≤ n → Awake (wake_both (wake_both m c) q) n
     first c q n is low i = both_grow (wake_both m c) q n (one_wakes m c long is i (low i))
 
@@ -132,7 +132,7 @@ module _ (S : State) (t : Tree) (sound : Sound S) (e : S.top ≡ full t) {h : He
     woken_below_lem LightenRight q = (first _ q _ refl (λ j. held_low hl), tt)
 
   -- Above it: the parent and the grandparent, if they see a difference.
-  module _ (m : List ℕ) (long : Long m) (x s : ℕ) {g b : ℕ} (kin : kin_of p h.root x s ≡ two b g) (low : Low g × Low b) (w w' : ℕ) where
+  module _ (m : List Bool) (long : Long m) (x s : ℕ) {g b : ℕ} (kin : kin_of p h.root x s ≡ two b g) (low : Low g × Low b) (w w' : ℕ) where
     above_one : parent_sees w w' ≡ true → (woken_above p h.root x s w w').one ≡ b
     unfolding woken_above
     above_one f = rw (f, woken_above) (go (grand_sees w w'))
@@ -162,7 +162,7 @@ module _ (S : State) (t : Tree) (sound : Sound S) (e : S.top ≡ full t) {h : He
       rw (root_full shows e) (kin_is p (last_slot p) 0 key_end (shows_tree shows e) good.ordered (tree_once S t sound e s) hangs deep_enough)
 
   -- The step's slot stands somewhere in the tree, and is an inner node.
-  hung_covers : (k : Kind) (s : ℕ) → allowed s k t ≡ true → (m : List ℕ) → Long m → Covers (Awake m) t → {w g b : ℕ} (u : Tree) → HangsIn s w u g b t → condition k w u ≡ true
+  hung_covers : (k : Kind) (s : ℕ) → allowed s k t ≡ true → (m : List Bool) → Long m → Covers (Awake m) t → {w g b : ℕ} (u : Tree) → HangsIn s w u g b t → condition k w u ≡ true
       → Covers (Awake (woken h p s k (around_at p s) m)) (stepped k s t)
   unfolding woken slot_of key_of
   hung_covers k s ok m long cover (leaf v i) hangs c = absurd (false≢true (sym (no_leaf k _ v i) ∙ c))
@@ -206,7 +206,7 @@ module _ (S : State) (t : Tree) (sound : Sound S) (e : S.top ≡ full t) {h : He
           (λ f. parent_wakes m₁ long₁ i s (kin_shows hangs) low w (weight_after k w) (ap (parent_sees w) (sym same) ∙ f))
           (λ f. grand_wakes m₁ long₁ i s (kin_shows hangs) low w (weight_after k w) (ap (grand_sees w) (sym same) ∙ f))) cover)
 
-  pub step_covers : (k : Kind) (s : ℕ) → allowed s k t ≡ true → (m : List ℕ) → Long m → Covers (Awake m) t → Covers (Awake (woken h p s k (around_at p s) m)) (stepped k s t)
+  pub step_covers : (k : Kind) (s : ℕ) → allowed s k t ≡ true → (m : List Bool) → Long m → Covers (Awake m) t → Covers (Awake (woken h p s k (around_at p s) m)) (stepped k s t)
   unfolding condition_at
   step_covers k s ok m long cover = go (locate s 1 t (holds_at_present (condition k) s 1 t c))
     where

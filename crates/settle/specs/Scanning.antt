@@ -43,10 +43,10 @@ first_allowed h p = first_from (last_slot p) h p 1
 -- counts with all its slots.
 pub record Scan : Type 0 where
   pub found : Found Lowest
-  pub awake : List ℕ
+  pub awake : List Bool
   pub looks : ℕ
 
-abbrev pub scan : Found Lowest → List ℕ → ℕ → Scan
+abbrev pub scan : Found Lowest → List Bool → ℕ → Scan
 scan f m n = record { found = f; awake = m; looks = n }
 
 -- the same after n more looks
@@ -55,26 +55,26 @@ after n r = scan r.found r.awake (n + r.looks)
 
 -- A row of n numbers from i on, the first of which stands at the place `row + i`; `below i` scans what the number i speaks for. What is asleep is
 -- passed over, and what allows nothing falls asleep.
-unfoldable pub row_from : (row : ℕ) → (ℕ → List ℕ → Scan) → (n i : ℕ) → List ℕ → Scan
+unfoldable pub row_from : (row : ℕ) → (ℕ → List Bool → Scan) → (n i : ℕ) → List Bool → Scan
 row_from row below zero i m = scan None m 0
 row_from row below (suc n) i m = elim (is_awake m (row + i)) [
   | false ↦ after 1 (row_from row below n (suc i) m)
   | true ↦ let r = below i m in elim r.found [
     | Some x ↦ scan (Some x) r.awake (1 + r.looks)
-    | None ↦ after (1 + r.looks) (row_from row below n (suc i) (slice_set r.awake (row + i) 0))
+    | None ↦ after (1 + r.looks) (row_from row below n (suc i) (slice_set r.awake (row + i) false))
   ]
 ]
 
-unfoldable pub in_block : Header → List ℕ → ℕ → List ℕ → Scan
+unfoldable pub in_block : Header → List ℕ → ℕ → List Bool → Scan
 in_block h p b m = scan (first_from block_size h p (block_size * b)) m block_size
 
 -- the blocks of a group, up to that of the last slot
 abbrev pub blocks_in : List ℕ → ℕ → ℕ
 blocks_in p g = min group_size (1 + block_of (last_slot p) - group_size * g)
 
-unfoldable pub in_group : Header → List ℕ → ℕ → List ℕ → Scan
+unfoldable pub in_group : Header → List ℕ → ℕ → List Bool → Scan
 in_group h p g m = row_from 0 (in_block h p) (blocks_in p g) (group_size * g) m
 
 -- among the slots that are awake
-unfoldable pub first_awake : Header → List ℕ → List ℕ → Scan
+unfoldable pub first_awake : Header → List ℕ → List Bool → Scan
 first_awake h p m = row_from (group_place 0) (in_group h p) (1 + block_of (last_slot p) / group_size) 0 m

@@ -1,6 +1,6 @@
 -- Document 01, on words: settle as the list of pools that it goes through (serves RULES 5), the header given by value, with what is awake at the
 -- beginning; and the same for a pool whose header lies in its first words.
-use Rattle.std.specs.Prelude.{ℕ, zero, suc, List, [], ◌∷◌, length}
+use Rattle.std.specs.Prelude.{ℕ, zero, suc, List, [], ◌∷◌, length, Bool}
 use Rattle.std.proofs.Math.Option.{Option, none, some}
 use Rattle.tree.specs.declared.Answer.{Answer}
 use Rattle.tree.specs.Settle.{last_of, settled}
@@ -18,9 +18,9 @@ use Rattle.settle.specs.Waking.{woken, woken_way}
 pub record Pool : Type 0 where
   pub header : Header
   pub words : List ℕ
-  pub awake : List ℕ
+  pub awake : List Bool
 
-abbrev pub pool_of : Header → List ℕ → List ℕ → Pool
+abbrev pub pool_of : Header → List ℕ → List Bool → Pool
 pool_of h p m = record { header = h; words = p; awake = m }
 
 abbrev pub scanned : Pool → Scan
@@ -37,7 +37,7 @@ unfoldable pub pools_after : ℕ → Pool → List Pool
 pools_after zero P = []
 pools_after (suc budget) P = elim (next_pool P) [ some Q ↦ Q ∷ pools_after budget Q | none ↦ [] ]
 
-unfoldable pub settle_from : List ℕ → List ℕ → Header → ℕ → Written
+unfoldable pub settle_from : List Bool → List ℕ → Header → ℕ → Written
 settle_from m p h budget =
     let Qs = pools_after budget (pool_of h p m) in
     let Q = last_of (pool_of h p m) Qs in

@@ -1,6 +1,6 @@
 -- What a step wakes (serves RULES 5): the slots at which it can have made another step allowed (`woken` in tree's Near). Below it they are two at
 -- most, by the kind; above it the parent and the grandparent, if they see a difference, found by a search for the slot's router.
-use Rattle.std.specs.Prelude.{ℕ, zero, suc, pred, ◌+◌, ◌%◌, ◌^◌, true, false, List, ◌==◌}
+use Rattle.std.specs.Prelude.{ℕ, zero, suc, pred, ◌+◌, ◌%◌, ◌^◌, true, false, List, ◌==◌, Bool}
 use Rattle.tree.specs.declared.Kind.{Kind}
 use Rattle.tree.specs.declared.Kind.TheVariants.{Blacken, SingleLeft, SingleRight, DoubleLeft, DoubleRight, Lighten, LightenLeft, LightenRight}
 use Rattle.tree.specs.Sights.{parent_sees, grand_sees}
@@ -57,13 +57,13 @@ woken_above q root x s w w' = elim (parent_sees w w') [
   | false ↦ two 0 0
 ]
 
-abbrev pub wake_both : List ℕ → Pair → List ℕ
+abbrev pub wake_both : List Bool → Pair → List Bool
 wake_both m c = wake (wake m c.one) c.other
 
 -- what is awake after kind k at slot s, around which a stands in the words q
-unfoldable pub woken : Header → List ℕ → ℕ → Kind → Around → List ℕ → List ℕ
+unfoldable pub woken : Header → List ℕ → ℕ → Kind → Around → List Bool → List Bool
 woken h q s k a m = wake_both (wake_both m (woken_below k a)) (woken_above q h.root a.v.key s a.v.weight (weight_after k a.v.weight))
 
 -- What an insert or delete of x can have woken in a tree that was red-black: the leaf where a search for x ends now, and the three slots before it.
-unfoldable pub woken_way : (root : ℕ) → List ℕ → (x : ℕ) → List ℕ → List ℕ
+unfoldable pub woken_way : (root : ℕ) → List ℕ → (x : ℕ) → List Bool → List Bool
 woken_way root q x m = let way = way_to q root x in wake_both (wake_both m (two way.leaf way.parent)) (kin_of q root x way.parent)

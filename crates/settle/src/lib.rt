@@ -21,28 +21,20 @@ use updates::{descend, toward};
 const BLOCK: u32 = 8;
 // The blocks of a group.
 const GROUP: u32 = 32;
-// The blocks of 16,384 slots; the groups' numbers stand after theirs.
+// The blocks of 16,384 slots; the groups' places come after theirs.
 const BLOCKS: usize = 2048;
 
-const NUMBERS: usize = 2112;
+const PLACES: usize = 2112;
 
-const AWAKE: u8 = 1;
-
-const ASLEEP: u8 = 0;
-
-// Whether the block or group whose number stands at i is awake.
+// Whether the block or group whose place is i is awake. (The groups stand in the same table after the blocks: one scan serves both rows.)
 #[tactic(auto, unfolding(crate::specs::Awake::is_awake))]
-fn is_awake(awake: &[u8], i: usize) -> bool
+fn is_awake(awake: &[bool], i: usize) -> bool
     ensures { result ≡ is_awake awake.now i }
 {
-    if i < awake.len() {
-        awake[i] == AWAKE
-    } else {
-        false
-    }
+    awake.get(i).copied().unwrap_or(false)
 }
 
-fn put_number(awake: &mut [u8], i: usize, x: u8)
+fn put_place(awake: &mut [bool], i: usize, x: bool)
     ensures { awake.new ≡ slice_set awake.old i x }
 {
     if i < awake.len() {
@@ -52,13 +44,13 @@ fn put_number(awake: &mut [u8], i: usize, x: u8)
 
 // Wakes a slot's block and that block's group. 01: "0 is no slot".
 #[tactic(auto, unfolding(crate::specs::Awake::wake))]
-fn wake(awake: &mut [u8], s: u32)
+fn wake(awake: &mut [bool], s: u32)
     ensures { awake.new ≡ wake awake.old s }
 {
     if s != 0 {
         let b = s / BLOCK;
-        put_number(awake, b as usize, AWAKE);
-        put_number(awake, BLOCKS + (b / GROUP) as usize, AWAKE);
+        put_place(awake, b as usize, true);
+        put_place(awake, BLOCKS + (b / GROUP) as usize, true);
     }
 }
 
@@ -75,7 +67,7 @@ fn two(one: u32, other: u32) -> Pair
     Pair { one, other }
 }
 
-fn wake_both(awake: &mut [u8], c: Pair)
+fn wake_both(awake: &mut [bool], c: Pair)
     ensures { awake.new ≡ wake_both awake.old c }
 {
     wake(awake, c.one);
@@ -112,7 +104,7 @@ fn first_among(pool: &[u32], h: Header, from: u32, to: u32) -> Option<Lowest>
 
 // The same of the blocks of a group that are awake, up to that of the last slot. One that allows nothing falls asleep.
 #[tactic(auto, using(crate::proofs::Scans::same_asleep, crate::proofs::Scans::same_nothing, crate::proofs::Scans::same_found, crate::proofs::Scans::same_end, crate::proofs::Scans::block_found, crate::proofs::Scans::block_leaves, crate::proofs::Scans::group_begins))]
-fn first_in_group(pool: &[u32], awake: &mut [u8], h: Header, g: u32) -> Option<Lowest>
+fn first_in_group(pool: &[u32], awake: &mut [bool], h: Header, g: u32) -> Option<Lowest>
     requires { suc g ≤ most_groups }
     ensures found { result ≡ (in_group h pool.now g awake.old).found }
     ensures awake { awake.new ≡ (in_group h pool.now g awake.old).awake }
@@ -125,7 +117,7 @@ fn first_in_group(pool: &[u32], awake: &mut [u8], h: Header, g: u32) -> Option<L
             if let Some(_) = found {
                 return found;
             }
-            put_number(awake, b as usize, ASLEEP);
+            put_place(awake, b as usize, false);
         }
     }
     None
@@ -133,7 +125,7 @@ fn first_in_group(pool: &[u32], awake: &mut [u8], h: Header, g: u32) -> Option<L
 
 // The same of the groups that are awake.
 #[tactic(auto, using(crate::proofs::Scans::same_asleep, crate::proofs::Scans::same_nothing, crate::proofs::Scans::same_found, crate::proofs::Scans::same_end, crate::proofs::Scans::groups_begin))]
-fn first_awake(pool: &[u32], awake: &mut [u8], h: Header) -> Option<Lowest>
+fn first_awake(pool: &[u32], awake: &mut [bool], h: Header) -> Option<Lowest>
     ensures found { result ≡ (first_awake h pool.now awake.old).found }
     ensures awake { awake.new ≡ (first_awake h pool.now awake.old).awake }
 {
@@ -144,7 +136,7 @@ fn first_awake(pool: &[u32], awake: &mut [u8], h: Header) -> Option<Lowest>
             if let Some(_) = found {
                 return found;
             }
-            put_number(awake, BLOCKS + g as usize, ASLEEP);
+            put_place(awake, BLOCKS + g as usize, false);
         }
     }
     None
@@ -232,7 +224,7 @@ fn woken_above(pool: &[u32], root: u32, key: u32, s: u32, w: u32, q: u32) -> Pai
 
 // Before a kind is taken at slot s, around which a stands: wakes what it can make allowed.
 #[tactic(auto, unfolding(crate::specs::Waking::woken))]
-fn wake_around(pool: &[u32], awake: &mut [u8], h: Header, s: u32, kind: Kind, a: Around)
+fn wake_around(pool: &[u32], awake: &mut [bool], h: Header, s: u32, kind: Kind, a: Around)
     ensures { awake.new ≡ woken h pool.now s kind a awake.old }
 {
     let w = a.v.weight;
@@ -245,7 +237,7 @@ fn wake_around(pool: &[u32], awake: &mut [u8], h: Header, s: u32, kind: Kind, a:
 
 // "Settle repeats: the lowest slot with an allowed kind, and there the lowest kind, until none is left or the budget is spent."
 #[tactic(auto, using(crate::proofs::SettleTurns::begin, crate::proofs::SettleTurns::turn, crate::proofs::SettleTurns::done, crate::proofs::SettleTurns::spent))]
-fn settle_from(pool: &mut [u32], awake: &mut [u8], h: &mut Header, budget: u32) -> Answer
+fn settle_from(pool: &mut [u32], awake: &mut [bool], h: &mut Header, budget: u32) -> Answer
     ensures answer { result ≡ (settle_from awake.old pool.old h.old budget).result.answer }
     ensures header { h.new ≡ (settle_from awake.old pool.old h.old budget).result.header }
     ensures pool { pool.new ≡ (settle_from awake.old pool.old h.old budget).words }
@@ -268,13 +260,13 @@ pub fn settle_under(pool: &mut [u32], h: &mut Header, budget: u32) -> Answer
     ensures header { h.new ≡ (settle_under pool.old h.old budget).result.header }
     ensures pool { pool.new ≡ (settle_under pool.old h.old budget).words }
 {
-    let mut awake = [AWAKE; NUMBERS];
+    let mut awake = [true; PLACES];
     settle_from(pool, &mut awake, h, budget)
 }
 
 // Wakes what an insert or delete of the key can have made allowed in a tree that was red-black.
 #[tactic(auto, unfolding(crate::specs::Waking::woken_way))]
-fn wake_way(pool: &[u32], awake: &mut [u8], root: u32, key: u32)
+fn wake_way(pool: &[u32], awake: &mut [bool], root: u32, key: u32)
     ensures { awake.new ≡ woken_way root pool.now key awake.old }
 {
     let w = descend(pool, root, key);
@@ -289,7 +281,7 @@ pub fn settle_after(pool: &mut [u32], h: &mut Header, key: u32, budget: u32) -> 
     ensures header { h.new ≡ (settled_after pool.old h.old key budget).result.header }
     ensures pool { pool.new ≡ (settled_after pool.old h.old key budget).words }
 {
-    let mut awake = [ASLEEP; NUMBERS];
+    let mut awake = [false; PLACES];
     wake_way(pool, &mut awake, h.root, key);
     settle_from(pool, &mut awake, h, budget)
 }

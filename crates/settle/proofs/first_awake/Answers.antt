@@ -22,7 +22,7 @@ loop-g-preserved c =
       same = rw e (elim c.if-is_awake.branch [
         | then-is_awake+in_default w ↦
             same_nothing _ _ _ _ _ _ _ c.loop-g.invariant.same (2048 + g) refl (omega arith) (sym w.if-is_awake.ensures) (sym w.first_in_group-found.ensures.found ∙ w.in_default.is)
-            (w.awake-is ∙ (w.put_number.ensures ∙ rw w.first_in_group-found.ensures.awake))
+            (w.awake-is ∙ (w.put_place.ensures ∙ rw w.first_in_group-found.ensures.awake))
         | else-is_awake w ↦ rw w.awake-is (same_asleep _ _ _ _ _ _ _ c.loop-g.invariant.same (2048 + g) refl (omega arith) (sym w.if-is_awake.ensures))
       ]);
     }
@@ -34,7 +34,7 @@ returns-after-is_awake c =
     let rest : Same (row_from 2048 (in_group c.args.h c.args.pool.now) (last - g) (g + 1) c.if-is_awake.awake) (first_awake c.args.h c.args.pool.now c.args.awake.now) = elim c.if-is_awake.branch [
       | then-is_awake+in_default w ↦
           same_nothing _ _ _ _ _ _ _ c.loop-g.invariant.same (2048 + g) refl (omega arith) (sym w.if-is_awake.ensures) (sym w.first_in_group-found.ensures.found ∙ w.in_default.is)
-          (w.awake-is ∙ (w.put_number.ensures ∙ rw w.first_in_group-found.ensures.awake))
+          (w.awake-is ∙ (w.put_place.ensures ∙ rw w.first_in_group-found.ensures.awake))
       | else-is_awake w ↦ rw w.awake-is (same_asleep _ _ _ _ _ _ _ c.loop-g.invariant.same (2048 + g) refl (omega arith) (sym w.if-is_awake.ensures))
     ] in
     let x = same_end _ _ _ 0 _ _ _ rest (omega arith) in

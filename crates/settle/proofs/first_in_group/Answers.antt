@@ -20,7 +20,7 @@ loop-b-preserved c =
       same = elim c.if-is_awake.branch [
         | then-is_awake+in_default w ↦
             let is = block_found c.args.h c.args.pool.now b c.loop-b.awake ∙ (sym w.first_among-found.ensures ∙ w.in_default.is) in
-            let left = w.awake-is ∙ (w.put_number.ensures ∙ rw (block_leaves c.args.h c.args.pool.now b c.loop-b.awake)) in
+            let left = w.awake-is ∙ (w.put_place.ensures ∙ rw (block_leaves c.args.h c.args.pool.now b c.loop-b.awake)) in
             same_nothing _ _ _ m _ _ _ c.loop-b.invariant.same b (omega arith) (omega arith) (sym w.if-is_awake.ensures) is left
         | else-is_awake w ↦ rw w.awake-is (same_asleep _ _ _ m _ _ _ c.loop-b.invariant.same b (omega arith) (omega arith) (sym w.if-is_awake.ensures))
       ];
