@@ -7,14 +7,14 @@ use mathlib.Core.List.{List}
 use Prim.Native.Nat.{ℕ, ◌*◌, ◌≤◌, ◌<◌}
 use native.Mathlib.Omega.{arith}
 use lib.ListN.{length}
-use Rattle.std.specs.Prelude.{Ok, Err}
 use borrow.Author.Tests.{not-true, not-false}
 use Rattle.tree.specs.declared.Refusal.{Refusal}
 use Rattle.tree.specs.declared.Refusal.TheVariants.{PoolLength, RulesBroken, BadCommand, FewAnswers}
 use Rattle.format.specs.declared.Header.{Header}
 use Rattle.format.specs.Words.{header_of, length_good}
-use Rattle.format.specs.Audit.{audit_code}
-use Rattle.format.proofs.AuditCases.{Kept, code_broken}
+use Rattle.format.specs.declared.Unsound.{Unsound}
+use Rattle.format.specs.Audit.{audited, refusal_of}
+use Rattle.format.proofs.AuditCases.{Kept, broken_told}
 use Rattle.encoding.specs.Batch.{most_commands, read_batch, called, refused, batch}
 use Rattle.encoding.proofs.Endings.{length_ends, bad_ends, few_ends, broken_ends, ran_ends}
 use Rattle.std.specs.Prelude.{Result, Ok, Err}
@@ -43,9 +43,9 @@ module _ (bytes : List ℕ) (found : Result ℕ Fault) (scan : found ≡ scanned
   finds_bad p out good f e = bad_ends p bytes out good (scanned_bad (read_batch bytes) (sym scan ∙ e))
 
   -- nothing refuses the call
-  module _ (p out : List ℕ) (n : ℕ) (e : found ≡ Ok n) (enough : 2 * n ≤ length out) (k : Kept p (header_of p)) where
-    pub finds_ready : {h : Header} → h ≡ header_of p → Ready p h bytes out
-    finds_ready read =
+  module _ (p out : List ℕ) (n : ℕ) (e : found ≡ Ok n) (enough : 2 * n ≤ length out) {h : Header} (k : Kept p h) where
+    pub finds_ready : Ready p h bytes out
+    finds_ready =
         let x = scanned_commands (read_batch bytes) (sym scan ∙ e) in
         record {
           cs = x.0;
@@ -54,18 +54,18 @@ module _ (bytes : List ℕ) (found : Result ℕ Fault) (scan : found ≡ scanned
           length_good_holds = k.length_good_holds;
           rules_hold_holds = k.rules_hold_holds;
           sound = k.sound;
-          shows = rw read k.shows;
+          shows = k.shows;
         }
 
     -- the call gives 0 and number 0 itself
     pub finds_none : (call_code (Ok tt) ≡ (batch p bytes out).code) × (call_number (Ok tt) ≡ (batch p bytes out).number)
     unfolding called call_code call_number
     finds_none =
-        let r = finds_ready refl in
+        let r = finds_ready in
         rw (ran_ends p bytes out r.length_good_holds r.read r.enough r.rules_hold_holds) (refl, refl)
 
 -- The same from the tests as the code makes them, for a `search` that takes what stands before a return, wherever it stands: `long` is
--- what the test of the length gave, `found` what was found in the bytes, `given` the audit's code.
+-- what the test of the length gave, `found` what was found in the bytes, `given` what the audit answered.
 module _ (p bytes out : List ℕ) {long : Bool} (l : long ≡ length_good p) where
   pub test_length : not long ≡ true → batch p bytes out ≡ refused PoolLength p out
   test_length t = length_ends p bytes out (sym l ∙ not-true long t)
@@ -76,8 +76,23 @@ module _ (p bytes out : List ℕ) {long : Bool} (l : long ≡ length_good p) whe
         let x = scanned_commands (read_batch bytes) (sym scan ∙ e) in
         few_ends p bytes out (sym l ∙ not-false long t) x.1 (omega (arith, x.2))
 
-    pub test_broken : 2 * n ≤ length out → {given : ℕ} → given ≡ audit_code p → given ≢ 0 → batch p bytes out ≡ refused RulesBroken p out
-    test_broken h a b =
-        let x = scanned_commands (read_batch bytes) (sym scan ∙ e) in
-        let good = sym l ∙ not-false long t in
-        broken_ends p bytes out good x.1 (omega (arith, x.2)) (code_broken p good (rw a at b))
+    -- 2: of the audit's two causes one is left
+    module _ (h : 2 * n ≤ length out) {u : Unsound} (b : audited p ≡ Err u) where
+      broken_refused : (refusal_of u ≡ RulesBroken) × (batch p bytes out ≡ refused RulesBroken p out)
+      broken_refused =
+          let x = scanned_commands (read_batch bytes) (sym scan ∙ e) in
+          let good = sym l ∙ not-false long t in
+          let w = broken_told p good u b in
+          (w.1, broken_ends p bytes out good x.1 (omega (arith, x.2)) w.0)
+
+      pub broken_code : call_code (Err (refusal_of u)) ≡ (batch p bytes out).code
+      broken_code = rw (broken_refused.0, broken_refused.1) (sym (call_refuses RulesBroken p out).0)
+
+      pub broken_number : call_number (Err (refusal_of u)) ≡ (batch p bytes out).number
+      broken_number = rw (broken_refused.0, broken_refused.1) (sym (call_refuses RulesBroken p out).1.0)
+
+      pub broken_pool : p ≡ (batch p bytes out).pool
+      broken_pool = rw broken_refused.1 (sym (call_refuses RulesBroken p out).1.1.0)
+
+      pub broken_answers : out ≡ (batch p bytes out).answers
+      broken_answers = rw broken_refused.1 (sym (call_refuses RulesBroken p out).1.1.1)

@@ -10,8 +10,8 @@ ghost use Rattle.batch.specs.Ready.{Ready};
 use commands::{command_at, scan};
 use encoding::{Command, Operation};
 use format::Header;
-use pool::audit;
-use slots::{get_header, length_good, put_header, put_word};
+use pool::examine;
+use slots::{length_good, put_header, put_word};
 use spans::{at_or_above, count_under, delete_span_under};
 use steps::{settle_under, step_under};
 use tree::{Answer, Refusal};
@@ -74,7 +74,7 @@ fn run(pool: &mut [u32], mut h: Header, bytes: &[u8], answers: &mut [u32])
 
 // 01: "Codes 1 to 4 refuse the call, in the order 1, 3, 4, 2, and change no word." "A call that is not refused gives 0 and number 0
 // itself."
-#[tactic(auto, using(format::proofs::AuditCases::code_kept, crate::proofs::CallTests::call_refuses, crate::proofs::CallTests::place_fits, crate::proofs::CallTests::count_fits, crate::proofs::CallTests::finds_ready, crate::proofs::CallTests::finds_none, crate::proofs::CallTests::test_length, crate::proofs::CallTests::test_few, crate::proofs::CallTests::test_broken))]
+#[tactic(auto, using(format::proofs::AuditCases::rules_are_kept, crate::proofs::CallTests::call_refuses, crate::proofs::CallTests::place_fits, crate::proofs::CallTests::count_fits, crate::proofs::CallTests::finds_ready, crate::proofs::CallTests::finds_none, crate::proofs::CallTests::test_length, crate::proofs::CallTests::test_few, crate::proofs::CallTests::broken_code, crate::proofs::CallTests::broken_number, crate::proofs::CallTests::broken_pool, crate::proofs::CallTests::broken_answers))]
 pub fn batch(pool: &mut [u32], bytes: &[u8], answers: &mut [u32]) -> Result<(), Refusal>
     ensures code { call_code result ≡ (batch pool.old bytes.now answers.old).code }
     ensures number { call_number result ≡ (batch pool.old bytes.now answers.old).number }
@@ -91,10 +91,7 @@ pub fn batch(pool: &mut [u32], bytes: &[u8], answers: &mut [u32]) -> Result<(), 
     if answers.len() < ANSWER_WORDS * count {
         return Err(Refusal::FewAnswers);
     }
-    if audit(pool) != Answer::DONE {
-        return Err(Refusal::RulesBroken);
-    }
-    let h = get_header(pool);
+    let h = examine(pool)?;
     run(pool, h, bytes, answers);
     Ok(())
 }

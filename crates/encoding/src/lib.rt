@@ -10,7 +10,7 @@ pub struct Fault {
     pub place: usize,
 }
 
-// A value read from bytes and where the next begins, or their fault.
+// A value read from bytes and where the next begins, or their fault. No reader that moves on: the rules speak of places.
 pub type Reading<T> = Result<(T, usize), Fault>;
 
 // 01: "1 search key; 2 insert key; 3 delete key; 4 step slot kind; 5 settle budget." 02 (vii): 6 with a key, 7 and 8 with the two ends of a span.

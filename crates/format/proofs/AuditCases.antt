@@ -8,6 +8,7 @@ use mathlib.Core.List.{List}
 use Prim.Native.Nat.{ℕ, ◌<◌, ◌^◌}
 use native.Mathlib.Omega.{arith}
 use lib.ListN.{get_or}
+use Rattle.tree.specs.declared.Refusal.TheVariants.{RulesBroken}
 use Rattle.tree.specs.State.{State, Sound}
 use Rattle.format.specs.declared.Header.{Header}
 use Rattle.std.specs.Prelude.{Result, Ok, Err}
@@ -15,7 +16,7 @@ use Rattle.format.specs.declared.Unsound.{Unsound}
 use Rattle.format.specs.declared.Unsound.TheVariants.{Length, Broken}
 use Rattle.format.specs.Words.{header_of, length_good}
 use Rattle.format.specs.Shows.{Shows, PoolShows}
-use Rattle.format.specs.Audit.{rules_hold, state_of, audited, audited_code, audit_code}
+use Rattle.format.specs.Audit.{rules_hold, state_of, audited, audited_code, refusal_of, audit_code}
 use Rattle.format.proofs.Rules.{rules_show, show_rules}
 
 -- every word is a 32-bit number
@@ -113,6 +114,11 @@ code_broken p l = go (audited_case p)
     go (rules_kept h f) n = absurd (n refl)
 
 -- Code 0 exactly when the words show a sound State. (They show no other: `shows_one`.)
+-- Where the length is good, the audit has one cause to refuse.
+pub broken_told : (p : List ℕ) → length_good p ≡ true → (u : Unsound) → audited p ≡ Err u → (rules_hold p ≡ false) × (refusal_of u ≡ RulesBroken)
+broken_told p l Length e = absurd (false≢true (sym (length_wrong p e) ∙ l))
+broken_told p l Broken e = ((rules_are_broken p e).1, refl)
+
 pub audit_exact : (p : List ℕ) → Words32 p → (audit_code p ≡ 0) ↔ ((S : State) × Sound S × PoolShows p S)
 unfolding audit_code
 audit_exact p words = (λ e. let k = code_kept p words e in (state_of p, k.sound, k.shows), λ g. rw (audited_passed p g.1 g.2))

@@ -2,13 +2,15 @@
 // (crate set's page Promises), and on nothing behind them.
 #![tactic(auto)]
 
-ghost use Rattle.std.specs.Prelude.{◌≡◌, ◌+◌, ◌≤◌, ◌<◌};
+ghost use Rattle.std.specs.Prelude.{◌≡◌, ◌+◌, ◌≤◌, ◌<◌, IfSome};
+ghost use Rattle.std.specs.Option.{unwrap_or};
+ghost use Rattle.tree.specs.Codes.{answer_of};
 ghost use Rattle.set.specs.Operations.{key_end};
 ghost use Rattle.set.specs.Set.{Passing};
 ghost use Rattle.ledger.specs.Ledger.{most_attempts, notice_good, arguments_good, notice_keys, lowest_from, asked, may_send, cleared_at, cleared_from, clear_notice};
 
 use set::{audit_answer, delete, insert, next_key, search};
-use tree::{Answer, Refusal};
+use tree::Refusal;
 
 // 02 (iv): "A notice number from 1 to 65,535 and a resident number from 0 to 8,191 are given, with a limit from 1 to 7."
 pub const MOST_NOTICE: u32 = 65535;
@@ -25,79 +27,62 @@ const RESIDENT_KEYS: u32 = 8;
 fn notice_good(notice: u32) -> bool
     ensures { result ≡ notice_good notice }
 {
-    if notice < 1 {
-        return false;
-    }
-    notice <= MOST_NOTICE
+    (1..=MOST_NOTICE).contains(&notice)
 }
 
 #[tactic(auto, using(crate::proofs::Arguments::notice_refused, crate::proofs::Arguments::resident_refused, crate::proofs::Arguments::limit_refused, crate::proofs::Arguments::limit_decides))]
 fn arguments_good(notice: u32, resident: u32, limit: u32) -> bool
     ensures { result ≡ arguments_good notice resident limit }
 {
-    if !notice_good(notice) {
-        return false;
-    }
-    if MOST_RESIDENT < resident {
-        return false;
-    }
-    if limit < 1 {
-        return false;
-    }
-    limit <= MOST_ATTEMPTS
+    notice_good(notice) && resident <= MOST_RESIDENT && (1..=MOST_ATTEMPTS).contains(&limit)
 }
 
-// The lowest attempt from 1 to the limit that is not marked, or 0: at most `limit` searches. The key `first` is that of attempt 0.
+// The lowest attempt from 1 to the limit that is not marked: at most `limit` searches. The key `first` is that of attempt 0.
 #[tactic(auto, using(crate::proofs::Asking::lowest_here, crate::proofs::Asking::lowest_on, crate::proofs::Asking::lowest_none, crate::proofs::Asking::search_misses, crate::proofs::Asking::search_finds))]
-fn lowest_unmarked(pool: &[u32], first: u32, limit: u32) -> u32
+fn lowest_unmarked(pool: &[u32], first: u32, limit: u32) -> Option<u32>
     requires passes { Passing pool.now }
     requires fits { first + limit < key_end }
     requires few { limit ≤ most_attempts }
-    ensures { result ≡ lowest_from limit 1 first pool.now }
+    ensures lowest { unwrap_or result 0 ≡ lowest_from limit 1 first pool.now }
+    ensures from_one { IfSome result (λ attempt. 1 ≤ attempt) }
 {
-    let mut attempt = 1;
-    while attempt <= limit {
+    for attempt in 1..=limit {
         if search(pool, first + attempt).is_err() {
-            return attempt;
+            return Some(attempt);
         }
-        attempt += 1;
     }
-    0
+    None
 }
 
 // 02 (iv): the lowest unmarked attempt "is marked in the same call before the answer is yes". An insert of a key that is not there is
 // refused for one cause alone, no room.
 #[tactic(auto, using(crate::proofs::Asking::asked_used, crate::proofs::Asking::found_within, crate::proofs::Asking::asked_lacking, crate::proofs::Asking::asked_yes))]
-fn ask(pool: &mut [u32], first: u32, limit: u32) -> Answer
+fn ask(pool: &mut [u32], first: u32, limit: u32) -> Result<u32, Refusal>
     requires passes { Passing pool.old }
     requires fits { first + limit < key_end }
     requires few { limit ≤ most_attempts }
-    ensures answer { result ≡ (asked pool.old first limit).answer }
+    ensures answer { answer_of result ≡ (asked pool.old first limit).answer }
     ensures pool { pool.new ≡ (asked pool.old first limit).left }
 {
-    let attempt = lowest_unmarked(pool, first, limit);
-    if attempt == 0 {
-        return Answer::Refused(Refusal::AllUsed);
-    }
+    let Some(attempt) = lowest_unmarked(pool, first, limit) else {
+        return Err(Refusal::AllUsed);
+    };
     if insert(pool, first + attempt).is_err() {
-        return Answer::Refused(Refusal::NoRoom);
+        return Err(Refusal::NoRoom);
     }
-    Answer::Done(attempt)
+    Ok(attempt)
 }
 
 // May this text go? Yes is code 0 and the attempt, whose mark is then in the set. Refusals in the order 15, 1, 2, 16, 7.
 #[tactic(auto, using(crate::proofs::Arguments::arguments_good_is, crate::proofs::Judging::audit_passing, crate::proofs::Judging::sending_outside, crate::proofs::Judging::sending_unaudited, crate::proofs::Judging::sending_asks))]
-pub fn may_send(pool: &mut [u32], notice: u32, resident: u32, limit: u32) -> Answer
-    ensures answer { result ≡ (may_send pool.old notice resident limit).answer }
+pub fn may_send(pool: &mut [u32], notice: u32, resident: u32, limit: u32) -> Result<u32, Refusal>
+    ensures answer { answer_of result ≡ (may_send pool.old notice resident limit).answer }
     ensures pool { pool.new ≡ (may_send pool.old notice resident limit).left }
 {
     if !arguments_good(notice, resident, limit) {
-        return Answer::Refused(Refusal::OutOfRange);
+        return Err(Refusal::OutOfRange);
     }
-    let audited = audit_answer(pool);
-    if audited.code() != Answer::DONE {
-        return audited;
-    }
+    audit_answer(pool)?;
     ask(pool, notice * NOTICE_KEYS + resident * RESIDENT_KEYS, limit)
 }
 
@@ -118,7 +103,8 @@ fn clear_at(pool: &mut [u32], key: u32) -> u32
 }
 
 // The marks among a notice's keys, from the first one on, smallest first: from one key that is in the set to the next. The last notice's
-// keys end with the last 32-bit number, so the key after them needs 64 bits.
+// keys end with the last 32-bit number, so the key after them needs 64 bits. No range or iterator serves: where the loop goes on is what
+// next_key answers, on a pool that the loop changes.
 #[tactic(auto, using(crate::proofs::Cleared::at_says, crate::proofs::Cleared::turn_starts, crate::proofs::Cleared::turn_ends, crate::proofs::Cleared::turn_none, crate::proofs::Cleared::turn_beyond, crate::proofs::Cleared::turn_later, crate::proofs::Cleared::turn_on))]
 fn clear_from(pool: &mut [u32], first: u32) -> u32
     requires passes { Passing pool.old }
@@ -144,16 +130,13 @@ fn clear_from(pool: &mut [u32], first: u32) -> u32
 
 // Clears a notice: code 0 and how many marks went. Refusals in the order 15, 1, 2.
 #[tactic(auto, using(crate::proofs::Arguments::notice_good_is, crate::proofs::Judging::audit_passing, crate::proofs::Judging::clearing_outside, crate::proofs::Judging::clearing_unaudited, crate::proofs::Judging::clearing_clears), unfolding(crate::specs::Ledger::clearing))]
-pub fn clear_notice(pool: &mut [u32], notice: u32) -> Answer
-    ensures answer { result ≡ (clear_notice pool.old notice).answer }
+pub fn clear_notice(pool: &mut [u32], notice: u32) -> Result<u32, Refusal>
+    ensures answer { answer_of result ≡ (clear_notice pool.old notice).answer }
     ensures pool { pool.new ≡ (clear_notice pool.old notice).left }
 {
     if !notice_good(notice) {
-        return Answer::Refused(Refusal::OutOfRange);
+        return Err(Refusal::OutOfRange);
     }
-    let audited = audit_answer(pool);
-    if audited.code() != Answer::DONE {
-        return audited;
-    }
-    Answer::Done(clear_from(pool, notice * NOTICE_KEYS))
+    audit_answer(pool)?;
+    Ok(clear_from(pool, notice * NOTICE_KEYS))
 }

@@ -3,6 +3,7 @@
 -- Every case is a kind (`every_case`).
 -- Why: each test of the condition is one of the case's edges. Only Case 1 does not have its conflict from its own edges: there 01's
 -- "some grandchild red" is the paper's "it was assumed that there is a conflict at v". Assumes nothing.
+use mathlib.Core.Option.{some}
 use mathlib.Core.Path.{◌≡◌, refl, sym, ◌∙◌}
 use mathlib.Core.Logic.{◌↔◌, ◌≢◌}
 use mathlib.Core.Bool.{true, false, not, ◌&&◌, or-true}
@@ -12,7 +13,6 @@ use native.Mathlib.Decide.{dec_le}
 use Prim.Native.Nat.{ℕ, zero, suc, ◌+◌, ◌≤◌, ◌<◌}
 use Rattle.tree.specs.declared.Kind.{Kind}
 use Rattle.tree.specs.declared.Kind.TheVariants.{Blacken, SingleLeft, SingleRight, DoubleLeft, DoubleRight, Lighten, LightenLeft, LightenRight}
-use Rattle.tree.specs.declared.Named.TheVariants.{Known}
 use Rattle.tree.specs.declared.Answer.TheVariants.{Done}
 use Rattle.tree.specs.Codes.{named}
 use Rattle.tree.specs.Tree.{Tree, leaf, node, red, overweighted, count, Chromatic}
@@ -128,8 +128,8 @@ red_grandchildren i l r h = go (dec_le 1 (for_red 1 l))
     go (yes d) = on_left (red_child_of l d)
     go (no d) = on_right (red_child_of r (omega arith))
 
-some : (w : ℕ) → suc w ≢ 0
-some w e = omega arith
+not_zero : (w : ℕ) → suc w ≢ 0
+not_zero w e = omega arith
 
 heavy : (w : ℕ) → 1 < suc (suc w)
 heavy w = omega arith
@@ -149,7 +149,7 @@ local_fits p single_left_case e = record {
   side = left;
   is = kind2;
   conflict = red_red to_left refl to_left refl;
-  applies = applies2 to_left refl to_right (some _) to_left refl;
+  applies = applies2 to_left refl to_right (not_zero _) to_left refl;
   narrowed = not_red_above p _ e;
 }
 local_fits p single_right_case e = record {
@@ -157,7 +157,7 @@ local_fits p single_right_case e = record {
   side = right;
   is = kind3;
   conflict = red_red to_right refl to_right refl;
-  applies = applies2 to_right refl to_left (some _) to_right refl;
+  applies = applies2 to_right refl to_left (not_zero _) to_right refl;
   narrowed = not_red_above p _ e;
 }
 local_fits p double_left_case e = record {
@@ -165,7 +165,7 @@ local_fits p double_left_case e = record {
   side = left;
   is = kind4;
   conflict = red_red to_left refl to_right refl;
-  applies = applies3 to_left refl to_right (some _) to_right refl;
+  applies = applies3 to_left refl to_right (not_zero _) to_right refl;
   narrowed = not_red_above p _ e;
 }
 local_fits p double_right_case e = record {
@@ -173,7 +173,7 @@ local_fits p double_right_case e = record {
   side = right;
   is = kind5;
   conflict = red_red to_right refl to_left refl;
-  applies = applies3 to_right refl to_left (some _) to_left refl;
+  applies = applies3 to_right refl to_left (not_zero _) to_left refl;
   narrowed = not_red_above p _ e;
 }
 local_fits p lighten_left_child e = record {
@@ -181,7 +181,7 @@ local_fits p lighten_left_child e = record {
   side = left;
   is = kind6;
   conflict = overweight to_left (heavy _);
-  applies = applies4 to_left (heavy _) to_right (some _);
+  applies = applies4 to_left (heavy _) to_right (not_zero _);
   narrowed = tt;
 }
 local_fits p lighten_right_child e = record {
@@ -189,7 +189,7 @@ local_fits p lighten_right_child e = record {
   side = right;
   is = kind6;
   conflict = overweight to_right (heavy _);
-  applies = applies4 to_right (heavy _) to_left (some _);
+  applies = applies4 to_right (heavy _) to_left (not_zero _);
   narrowed = tt;
 }
 local_fits p lighten_left_case e = record {
@@ -197,7 +197,7 @@ local_fits p lighten_left_case e = record {
   side = left;
   is = kind7;
   conflict = overweight to_left (heavy _);
-  applies = applies5 to_left (heavy _) to_right refl to_left (some _);
+  applies = applies5 to_left (heavy _) to_right refl to_left (not_zero _);
   narrowed = tt;
 }
 local_fits p lighten_right_case e = record {
@@ -205,7 +205,7 @@ local_fits p lighten_right_case e = record {
   side = right;
   is = kind8;
   conflict = overweight to_right (heavy _);
-  applies = applies5 to_right (heavy _) to_left refl to_right (some _);
+  applies = applies5 to_right (heavy _) to_left refl to_right (not_zero _);
   narrowed = tt;
 }
 
@@ -256,7 +256,7 @@ condition_as_paper k s t c n = (
 -- What it takes for a step to be accepted, in the paper's terms: 11 is 01's own limit.
 pub record AcceptedAsPaper (s n m : ℕ) (t : Tree) : Type 0 where
   pub kind : Kind
-  pub is_named : named n ≡ Known kind
+  pub is_named : named n ≡ some kind
   pub fits_at : FitsAt kind s t
   pub below_limit : at_limit kind s t ≡ false
   pub number : m ≡ n

@@ -7,6 +7,7 @@
 -- (Promises.antt: `…-kept`).
 -- Why: words that show a sound State have its L in their header; each operation on them is the State's, of which crate tree's Levelled.antt
 -- says how L moves. Assumes nothing.
+use mathlib.Core.Option.{none, some}
 use mathlib.Core.Path.{◌≡◌, refl, ap, sym, ◌∙◌}
 use mathlib.Core.Logic.{◌≢◌}
 use mathlib.Core.Bool.{true, false, ◌&&◌}
@@ -18,7 +19,6 @@ use Prim.Native.Nat.{ℕ, ◌+◌, ◌≤◌, ◌<◌}
 use borrow.Author.Tests.{eq-eqb, ne_eqb}
 use Rattle.tree.specs.declared.Kind.{Kind}
 use Rattle.tree.specs.declared.Kind.TheVariants.{Blacken, SingleLeft, SingleRight, DoubleLeft, DoubleRight, Lighten, LightenLeft, LightenRight}
-use Rattle.tree.specs.declared.Named.TheVariants.{Known}
 use Rattle.tree.specs.declared.Answer.TheVariants.{Done}
 use Rattle.tree.specs.declared.Refusal.TheVariants.{KeyAbsent}
 use Rattle.tree.specs.Codes.{most_level, kind_number, named}
@@ -126,10 +126,10 @@ falls_number Lighten = refl
 falls_number LightenLeft = refl
 falls_number LightenRight = refl
 
-done_kind : (s n : ℕ) (S : State) {a : ℕ} → (step s n S).answer ≡ Done a → (k : Kind) × (named n ≡ Known k)
+done_kind : (s n : ℕ) (S : State) {a : ℕ} → (step s n S).answer ≡ Done a → (k : Kind) × (named n ≡ some k)
 done_kind s n S {a} = go (stepping s n S)
   where
-    go : {o : Outcome} → StepCase s n S o → o.answer ≡ Done a → (k : Kind) × (named n ≡ Known k)
+    go : {o : Outcome} → StepCase s n S o → o.answer ≡ Done a → (k : Kind) × (named n ≡ some k)
     go (refused c) d = let z : ◌≡◌ {A = ℕ} 0 1 = cc in absurd (omega arith)
     go (taken {k = k} e f h b) d = (k, h)
 
@@ -163,7 +163,7 @@ module _ {p : List ℕ} (g : Passing p) where
       shows_level e.1 ∙ level_at_last_delete x (shown g).state (shown g).sound (sym e.0 ∙ d) (sym (shows_nodes (shown g).shows) ∙ three)
 
   -- Kind 1 at the root raises L by 1 and kind 6 there lowers it by 1; kinds 7 and 8 there keep it, and so does every step below the root.
-  pub step_level_word : (s n : ℕ) {a : ℕ} → step_answer p s n ≡ Done a → (k : Kind) → named n ≡ Known k
+  pub step_level_word : (s n : ℕ) {a : ℕ} → step_answer p s n ≡ Done a → (k : Kind) → named n ≡ some k
       → (s ≡ (header_of p).root → (header_of (step_words p s n)).level + falls_by k ≡ (header_of p).level + rises_by k)
       × (s ≢ (header_of p).root → (header_of (step_words p s n)).level ≡ (header_of p).level)
   unfolding root_of
@@ -190,7 +190,7 @@ module _ {p : List ℕ} (g : Passing p) where
   unfolding one
   step_level_by_number s n {a} d = let K = done_kind s n (shown g).state (sym (step_entry (shown g).sound (shown g).shows s n).0 ∙ d) in go K.0 K.1
     where
-      go : (k : Kind) → named n ≡ Known k
+      go : (k : Kind) → named n ≡ some k
           → (header_of (step_words p s n)).level + one (eqb s (header_of p).root && eqb n (kind_number Lighten)) ≡ (header_of p).level + one (eqb s (header_of p).root && eqb n (kind_number Blacken))
       go k f =
           let m = step_level_word s n d k f in

@@ -2,6 +2,7 @@
 -- 32-bit number (`passing_words`), and every operation leaves one: insert, delete, step, settle, and prepare (`…-passing`; of a span, SpanAnswers.antt).
 -- Why: each operation on words that show a sound State shows the State that the definition gives (the crates' `…-shows`), and that
 -- one is sound (crate tree's `…-sound`). Assumes nothing.
+use Rattle.std.specs.Prelude.{Result, Ok, Err}
 use mathlib.Core.Path.{◌≡◌, sym, ◌∙◌}
 use mathlib.Core.Logic.{◌↔◌}
 use mathlib.Core.Bool.{true, false≢true}
@@ -11,6 +12,7 @@ use Rattle.tree.specs.State.{State, key_end, Sound}
 use Rattle.tree.proofs.Updated.{insert_sound, delete_sound}
 use Rattle.tree.proofs.StepState.{step_sound_state}
 use Rattle.tree.proofs.Settling.{settle_sound_state}
+use Rattle.format.specs.declared.Header.{Header}
 use Rattle.format.specs.declared.Unsound.{Unsound}
 use Rattle.format.specs.Words.{header_of, length_good}
 use Rattle.format.specs.Shows.{PoolShows}

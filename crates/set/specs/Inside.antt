@@ -1,11 +1,12 @@
 -- What a pool's words mean to the set (RULES 13.2), read off the State that they show, and the audit as an answer (serves RULES 2, 9 and 17).
 -- The pages Set.antt and Operations.antt pass these names on, so that a crate above cites them there and cannot unfold them; this page is the set's
 -- own, and of those who prove what it promises.
-use Rattle.std.specs.Prelude.{List, length, ℕ}
+use Rattle.std.specs.Prelude.{List, length, ℕ, Result, Err, Ok}
 use Rattle.tree.specs.declared.Answer.{Answer}
 use Rattle.tree.specs.declared.Answer.TheVariants.{Done, Refused}
 use Rattle.tree.specs.declared.Refusal.TheVariants.{PoolLength, RulesBroken}
 use Rattle.tree.specs.State.{State, keys_of, is_in, Sound, slots_needed}
+use Rattle.format.specs.declared.Header.{Header}
 use Rattle.format.specs.declared.Unsound.{Unsound}
 use Rattle.format.specs.declared.Unsound.TheVariants.{Length, Broken}
 use Rattle.format.specs.Shows.{PoolShows}
