@@ -113,12 +113,12 @@ code_broken p l = go (audited_case p)
     go (rules_broken h f) n = f
     go (rules_kept h f) n = absurd (n refl)
 
--- Code 0 exactly when the words show a sound State. (They show no other: `shows_one`.)
 -- Where the length is good, the audit has one cause to refuse.
 pub broken_told : (p : List ℕ) → length_good p ≡ true → (u : Unsound) → audited p ≡ Err u → (rules_hold p ≡ false) × (refusal_of u ≡ RulesBroken)
 broken_told p l Length e = absurd (false≢true (sym (length_wrong p e) ∙ l))
 broken_told p l Broken e = ((rules_are_broken p e).1, refl)
 
+-- Code 0 exactly when the words show a sound State. (They show no other: `shows_one`.)
 pub audit_exact : (p : List ℕ) → Words32 p → (audit_code p ≡ 0) ↔ ((S : State) × Sound S × PoolShows p S)
 unfolding audit_code
 audit_exact p words = (λ e. let k = code_kept p words e in (state_of p, k.sound, k.shows), λ g. rw (audited_passed p g.1 g.2))

@@ -6,6 +6,8 @@ use Rattle.format.proofs.Part.place.Kinds as part-place-kinds
 use Rattle.format.proofs.Part.place.Reads as part-place-reads
 use Rattle.format.proofs.Part.of.Kinds as part-of-kinds
 use Rattle.format.proofs.Part.of.Reads as part-of-reads
+use Rattle.format.proofs.RefusalFromUnsound.from.Kinds as refusal-from-kinds
+use Rattle.format.proofs.RefusalFromUnsound.from.Reads as refusal-from-reads
 
 pub header_at_level_decides : DecidesResult 0 header-at-level-kinds.ps header-at-level-kinds.r header-at-level-reads.Post
 header_at_level_decides κs a x y e f p q = equal p q
@@ -15,3 +17,7 @@ part_place_decides κs a x y e f p q = equal p q
 
 pub part_of_decides : DecidesResult 0 part-of-kinds.ps part-of-kinds.r part-of-reads.Post
 part_of_decides κs a x y e f p q = equal p q
+
+-- of what the audit answers, the refusal and so the code
+pub audited_code_decides : DecidesResult 0 refusal-from-kinds.ps refusal-from-kinds.r refusal-from-reads.Post
+audited_code_decides κs a x y e f p q = equal p q

@@ -82,7 +82,7 @@ fn is_red(pool: &[u32], s: u32) -> bool
 
 // 01: "a node below a red edge adds one conflict per red child edge, a node below any other edge (and the root) adds none, and each
 // passes its children to either." The subtree at slot s, whose edge is red or not, in a tree of n nodes, at most `left` nodes deep: its
-// conflicts, and outside(u) for each.
+// conflicts, and outside(u) for each. Pool and n go along as they are: a struct of the two would be taken apart again in each contract.
 fn reds(pool: &[u32], under_red: bool, s: u32, n: u32, left: u32) -> Counted
     requires { Standing pool.now s n left × (under_red ≡ red (slot_at pool.now s).weight) }
     ensures { Counts (reds_in n) pool.now s n left result }

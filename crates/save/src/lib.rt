@@ -2,7 +2,7 @@
 // plus 1 for an inner node; then the key or router."
 #![tactic(auto)]
 
-ghost use Rattle.std.specs.Prelude.{◌≡◌, Ok, [], ◌∷◌, length, ◌+◌, ◌^◌, ◌≤◌, ◌<◌};
+ghost use Rattle.std.specs.Prelude.{◌≡◌, Ok, ℕ, get_or, [], ◌∷◌, length, ◌+◌, ◌^◌, ◌≤◌, ◌<◌};
 ghost use Rattle.format.specs.Audit.{state_of, audited};
 ghost use Rattle.pool.specs.Walks.{most_sum};
 ghost use Rattle.saved.specs.Saved.{top_numbers, bytes_of_all, saved_bytes};
@@ -56,43 +56,55 @@ fn put_tree(pool: &[u32], out: &mut [u8], s: u32, at: usize, left: u32) -> usize
     put_tree(pool, out, c.right, j, left - 1)
 }
 
-// The same of all nodes of a pool that passed the audit: none where the root is 0.
-#[tactic(auto, using(format::proofs::AuditCases::rules_are_kept, crate::proofs::Whole::root_placed))]
-fn put_nodes(pool: &[u32], out: &mut [u8], h: Header, at: usize) -> usize
-    requires { (audited pool.now ≡ Ok h) × (at < 2 ^ 32) }
-    ensures { Put (top_numbers (state_of pool.now).top) out.old out.new at result }
-{
-    if h.root == 0 {
-        return at;
-    }
-    put_tree(pool, out, h.root, at, allowance(pool))
+// A pool that passed the audit, with the header that the audit read.
+#[derive(Clone, Copy)]
+struct Kept<'a> {
+    words: &'a [u32],
+    header: Header,
+    ghost words_small: { (i : ℕ) → get_or words.now i 0 < 2 ^ 32 },
+    ghost passed: { audited words.now ≡ Ok header },
 }
 
-// All of a pool that passed the audit, from the first byte on, as far as there is room; and how many bytes it is.
-#[tactic(auto, using(format::proofs::AuditCases::rules_are_kept, crate::proofs::Writing::pair_most, crate::proofs::Whole::saved_wrote))]
-fn put_saved(pool: &[u32], out: &mut [u8], h: Header) -> usize
-    requires { audited pool.now ≡ Ok h }
-    ensures count { result ≡ length (saved_bytes (state_of pool.now)) }
-    ensures out { out.new ≡ sets out.old 0 (saved_bytes (state_of pool.now)) }
-{
-    let slots = last_slot(pool);
-    let at = put_pair(out, 0, slots, h.nodes);
-    put_nodes(pool, out, h, at)
-}
-
-// The bytes are counted before the first is written: a count is a writing for which there is no room.
-#[tactic(auto, using(format::proofs::AuditCases::rules_are_kept, crate::proofs::Whole::saved_small, crate::proofs::Whole::no_fit, crate::proofs::Whole::fit))]
-fn save_kept(pool: &[u32], out: &mut [u8], h: Header) -> Result<u32, Refusal>
-    requires { audited pool.now ≡ Ok h }
-    ensures answer { answer_of result ≡ (save_into (saved_bytes (state_of pool.now)) out.old).answer }
-    ensures out { out.new ≡ (save_into (saved_bytes (state_of pool.now)) out.old).left }
-{
-    let count = put_saved(pool, &mut [], h);
-    if out.len() < count {
-        return Err(Refusal::NoFit);
+impl<'a> Kept<'a> {
+    // The same of all its nodes: none where the root is 0.
+    #[tactic(auto, using(format::proofs::AuditCases::rules_are_kept, crate::proofs::Whole::root_placed))]
+    fn put_nodes(self, out: &mut [u8], at: usize) -> usize
+        requires { at < 2 ^ 32 }
+        ensures { Put (top_numbers (state_of self.entry.words.now).top) out.old out.new at result }
+    {
+        let h = self.header;
+        if h.root == 0 {
+            return at;
+        }
+        put_tree(self.words, out, h.root, at, allowance(self.words))
     }
-    put_saved(pool, out, h);
-    Ok(count as u32)
+
+    // All of it, from the first byte on, as far as there is room; and how many bytes it is.
+    #[tactic(auto, using(format::proofs::AuditCases::rules_are_kept, crate::proofs::Writing::pair_most, crate::proofs::Whole::saved_wrote))]
+    fn put_saved(self, out: &mut [u8]) -> usize
+        ensures count { result ≡ length (saved_bytes (state_of self.entry.words.now)) }
+        ensures few { result < 2 ^ 32 }
+        ensures out { out.new ≡ sets out.old 0 (saved_bytes (state_of self.entry.words.now)) }
+    {
+        let h = self.header;
+        let slots = last_slot(self.words);
+        let at = put_pair(out, 0, slots, h.nodes);
+        self.put_nodes(out, at)
+    }
+
+    // The bytes are counted before the first is written: a count is a writing for which there is no room.
+    #[tactic(auto, using(crate::proofs::Whole::no_fit, crate::proofs::Whole::fit))]
+    fn save(self, out: &mut [u8]) -> Result<u32, Refusal>
+        ensures answer { answer_of result ≡ (save_into (saved_bytes (state_of self.entry.words.now)) out.old).answer }
+        ensures out { out.new ≡ (save_into (saved_bytes (state_of self.entry.words.now)) out.old).left }
+    {
+        let count = self.put_saved(&mut []);
+        if out.len() < count {
+            return Err(Refusal::NoFit);
+        }
+        self.put_saved(out);
+        Ok(count as u32)
+    }
 }
 
 // "The writer takes any pool that passes the audit. [..] The writer answers 0 and the byte count".
@@ -102,5 +114,9 @@ pub fn save(pool: &[u32], out: &mut [u8]) -> Result<u32, Refusal>
     ensures out { out.new ≡ (save_call pool.now out.old).left }
 {
     let h = examine(pool)?;
-    save_kept(pool, out, h)
+    let kept = Kept {
+        words: pool,
+        header: h,
+    };
+    kept.save(out)
 }
