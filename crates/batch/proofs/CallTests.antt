@@ -8,7 +8,7 @@ use native.Mathlib.Omega.{arith}
 use lib.ListN.{length}
 use borrow.Author.Tests.{not-true, not-false}
 use Rattle.tree.specs.declared.Refusal.{Refusal}
-use Rattle.tree.specs.declared.Refusal.TheVariants.{PoolLength, BadCommand, FewAnswers}
+use Rattle.tree.specs.declared.Refusal.TheVariants.{PoolLength, RulesBroken, BadCommand, FewAnswers}
 use Rattle.format.specs.declared.Header.{Header}
 use Rattle.format.specs.Words.{length_good}
 use Rattle.format.specs.declared.Unsound.{Unsound}
