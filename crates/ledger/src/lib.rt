@@ -4,8 +4,7 @@
 
 ghost use Rattle.std.specs.Prelude.{◌≡◌, ◌+◌, ◌≤◌, ◌<◌, IfSome};
 ghost use Rattle.std.specs.Option.{unwrap_or};
-ghost use Rattle.tree.specs.Codes.{answer_of};
-ghost use Rattle.set.specs.Operations.{key_end};
+ghost use Rattle.set.specs.Operations.{key_end, answer_of};
 ghost use Rattle.set.specs.Set.{Passing};
 ghost use Rattle.ledger.specs.Ledger.{most_attempts, notice_good, arguments_good, notice_keys, lowest_from, asked, may_send, cleared_at, cleared_from, clear_notice};
 
