@@ -12,8 +12,8 @@ ghost use Rattle.saved.specs.Calls.{save_call, load_call};
 ghost use Rattle.ledger.specs.Ledger.{may_send, clear_notice};
 ghost use Rattle.chromatic.specs.Exports.{number_at, returned, returned_answer, interface_number};
 
-use ledger::{clear_notice, may_send};
 use format::Unsound;
+use ledger::{clear_notice, may_send};
 use load::load;
 use pool::{audit, prepare};
 use report::{figure_at, report};
@@ -70,12 +70,15 @@ pub extern "C" fn chromatic_audit(pool: &[u32]) -> u32
 }
 
 // 01: "takes an index, 1 first, and returns that number, 0 for a refused pool or any other index."
-#[tactic(auto, unfolding(crate::specs::Exports::number_at))]
+#[tactic(auto, using(report::proofs::Exact::zero_at), unfolding(crate::specs::Exports::number_at))]
 #[unsafe(no_mangle)]
 pub extern "C" fn chromatic_report(pool: &[u32], index: u32) -> u64
     ensures number { result ≡ number_at pool.now index }
 {
-    report(pool).map_or(0, |f| figure_at(f, index))
+    match report(pool) {
+        Ok(figures) => figure_at(figures, index),
+        Err(_) => 0,
+    }
 }
 
 #[tactic(auto, using(crate::proofs::Called::called))]
