@@ -3,7 +3,7 @@
 -- Every case is a kind (`every_case`).
 -- Why: each test of the condition is one of the case's edges. Only Case 1 does not have its conflict from its own edges: there 01's
 -- "some grandchild red" is the paper's "it was assumed that there is a conflict at v". Assumes nothing.
-use mathlib.Core.Option.{some}
+use mathlib.Core.Option.{some as known}
 use mathlib.Core.Path.{◌≡◌, refl, sym, ◌∙◌}
 use mathlib.Core.Logic.{◌↔◌, ◌≢◌}
 use mathlib.Core.Bool.{true, false, not, ◌&&◌, or-true}
@@ -256,7 +256,7 @@ condition_as_paper k s t c n = (
 -- What it takes for a step to be accepted, in the paper's terms: 11 is 01's own limit.
 pub record AcceptedAsPaper (s n m : ℕ) (t : Tree) : Type 0 where
   pub kind : Kind
-  pub is_named : named n ≡ some kind
+  pub is_named : named n ≡ known kind
   pub fits_at : FitsAt kind s t
   pub below_limit : at_limit kind s t ≡ false
   pub number : m ≡ n

@@ -54,7 +54,7 @@ fn wake(awake: &mut [bool], s: u32)
     }
 }
 
-// Two slots.
+// Two slots; as in the pool, 0 is no slot.
 #[derive(Clone, Copy)]
 pub struct Pair {
     pub one: u32,
@@ -113,9 +113,8 @@ fn first_in_group(pool: &[u32], awake: &mut [bool], h: Header, g: u32) -> Option
     let end = (first + GROUP).min(last_slot(pool) / BLOCK + 1);
     for b in first..end {
         if is_awake(awake, b as usize) {
-            let found = first_among(pool, h, BLOCK * b, BLOCK * b + BLOCK);
-            if let Some(_) = found {
-                return found;
+            if let Some(step) = first_among(pool, h, BLOCK * b, BLOCK * b + BLOCK) {
+                return Some(step);
             }
             put_place(awake, b as usize, false);
         }
@@ -132,9 +131,8 @@ fn first_awake(pool: &[u32], awake: &mut [bool], h: Header) -> Option<Lowest>
     let last = last_slot(pool) / BLOCK / GROUP;
     for g in 0..=last {
         if is_awake(awake, BLOCKS + g as usize) {
-            let found = first_in_group(pool, awake, h, g);
-            if let Some(_) = found {
-                return found;
+            if let Some(step) = first_in_group(pool, awake, h, g) {
+                return Some(step);
             }
             put_place(awake, BLOCKS + g as usize, false);
         }

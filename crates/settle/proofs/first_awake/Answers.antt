@@ -8,9 +8,9 @@ use Rattle.settle.proofs.first_awake.Goals.{then-is_awake+in_default, else-is_aw
 pub returns-in-Some : goal.returns-in-Some
 returns-in-Some c =
     let g = c.loop-g.g in
-    let ensures = c.first_in_group-found.ensures in
+    let ensures = c.first_in_group.ensures in
     let x = same_found _ _ _ (c.last_slot.result / 8 / 32 - g) _ _ _ c.loop-g.invariant.same (2048 + g) refl (omega arith) (sym c.if-is_awake.ensures) _ (sym ensures.found ∙ c.in-Some.is) in
-    record { found = ensures.found ∙ x.0; awake = ensures.awake ∙ x.1 }
+    record { found = sym c.in-Some.is ∙ (ensures.found ∙ x.0); awake = ensures.awake ∙ x.1 }
 
 pub loop-g-preserved : goal.loop-g-preserved
 loop-g-preserved c =
@@ -21,8 +21,8 @@ loop-g-preserved c =
       few = c.loop-g.invariant.few;
       same = rw e (elim c.if-is_awake.branch [
         | then-is_awake+in_default w ↦
-            same_nothing _ _ _ _ _ _ _ c.loop-g.invariant.same (2048 + g) refl (omega arith) (sym w.if-is_awake.ensures) (sym w.first_in_group-found.ensures.found ∙ w.in_default.is)
-            (w.awake-is ∙ (w.put_place.ensures ∙ rw w.first_in_group-found.ensures.awake))
+            same_nothing _ _ _ _ _ _ _ c.loop-g.invariant.same (2048 + g) refl (omega arith) (sym w.if-is_awake.ensures) (sym w.first_in_group.ensures.found ∙ w.in_default.is)
+            (w.awake-is ∙ (w.put_place.ensures ∙ rw w.first_in_group.ensures.awake))
         | else-is_awake w ↦ rw w.awake-is (same_asleep _ _ _ _ _ _ _ c.loop-g.invariant.same (2048 + g) refl (omega arith) (sym w.if-is_awake.ensures))
       ]);
     }
@@ -33,8 +33,8 @@ returns-after-is_awake c =
     let last = c.last_slot.result / 8 / 32 in
     let rest : Same (row_from 2048 (in_group c.args.h c.args.pool.now) (last - g) (g + 1) c.if-is_awake.awake) (first_awake c.args.h c.args.pool.now c.args.awake.now) = elim c.if-is_awake.branch [
       | then-is_awake+in_default w ↦
-          same_nothing _ _ _ _ _ _ _ c.loop-g.invariant.same (2048 + g) refl (omega arith) (sym w.if-is_awake.ensures) (sym w.first_in_group-found.ensures.found ∙ w.in_default.is)
-          (w.awake-is ∙ (w.put_place.ensures ∙ rw w.first_in_group-found.ensures.awake))
+          same_nothing _ _ _ _ _ _ _ c.loop-g.invariant.same (2048 + g) refl (omega arith) (sym w.if-is_awake.ensures) (sym w.first_in_group.ensures.found ∙ w.in_default.is)
+          (w.awake-is ∙ (w.put_place.ensures ∙ rw w.first_in_group.ensures.awake))
       | else-is_awake w ↦ rw w.awake-is (same_asleep _ _ _ _ _ _ _ c.loop-g.invariant.same (2048 + g) refl (omega arith) (sym w.if-is_awake.ensures))
     ] in
     let x = same_end _ _ _ 0 _ _ _ rest (omega arith) in

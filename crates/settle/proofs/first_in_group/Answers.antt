@@ -7,9 +7,9 @@ use Rattle.settle.proofs.first_in_group.Goals.{then-is_awake+in_default, else-is
 pub returns-in-Some : goal.returns-in-Some
 returns-in-Some c =
     let b = c.loop-b.b in
-    let is = block_found c.args.h c.args.pool.now b c.loop-b.awake ∙ sym c.first_among-found.ensures in
+    let is = block_found c.args.h c.args.pool.now b c.loop-b.awake ∙ sym c.first_among.ensures in
     let x = same_found _ _ _ (c.min-end.result - (b + 1)) _ _ _ c.loop-b.invariant.same b (omega arith) (omega arith) (sym c.if-is_awake.ensures) _ (is ∙ c.in-Some.is) in
-    record { found = sym is ∙ x.0; awake = sym (block_leaves c.args.h c.args.pool.now b c.loop-b.awake) ∙ x.1 }
+    record { found = sym (is ∙ c.in-Some.is) ∙ x.0; awake = sym (block_leaves c.args.h c.args.pool.now b c.loop-b.awake) ∙ x.1 }
 
 pub loop-b-preserved : goal.loop-b-preserved
 loop-b-preserved c =
@@ -19,7 +19,7 @@ loop-b-preserved c =
       few = c.loop-b.invariant.few;
       same = elim c.if-is_awake.branch [
         | then-is_awake+in_default w ↦
-            let is = block_found c.args.h c.args.pool.now b c.loop-b.awake ∙ (sym w.first_among-found.ensures ∙ w.in_default.is) in
+            let is = block_found c.args.h c.args.pool.now b c.loop-b.awake ∙ (sym w.first_among.ensures ∙ w.in_default.is) in
             let left = w.awake-is ∙ (w.put_place.ensures ∙ rw (block_leaves c.args.h c.args.pool.now b c.loop-b.awake)) in
             same_nothing _ _ _ m _ _ _ c.loop-b.invariant.same b (omega arith) (omega arith) (sym w.if-is_awake.ensures) is left
         | else-is_awake w ↦ rw w.awake-is (same_asleep _ _ _ m _ _ _ c.loop-b.invariant.same b (omega arith) (omega arith) (sym w.if-is_awake.ensures))
