@@ -1,7 +1,7 @@
 -- A report as code and numbers tells the code's whole answer: 0, 1 and 2 are its three cases. Assumes nothing.
 use mathlib.Core.Path.{◌≡◌, refl, ap}
 use native.Mathlib.Omega.{arith}
-use Rattle.std.specs.Prelude.{Result, Ok, Err, ℕ}
+use Rattle.std.specs.Prelude.{Result, Ok, Err}
 use Rattle.tree.specs.declared.Figures.{Figures}
 use Rattle.format.specs.declared.Unsound.{Unsound}
 use Rattle.format.specs.declared.Unsound.TheVariants.{Length, Broken}

@@ -5,7 +5,7 @@ use Rattle.tree.specs.State.{zeros, report, figures}
 use Rattle.format.specs.declared.Header.{Header}
 use Rattle.format.specs.declared.Unsound.{Unsound}
 use Rattle.format.specs.declared.Unsound.TheVariants.{Length, Broken}
-use Rattle.format.specs.Words.{free_weight, header}
+use Rattle.format.specs.Words.{free_weight}
 use Rattle.format.specs.Audit.{state_of, audited, audited_code, refusal_of}
 use Rattle.tree.specs.Codes.{code}
 

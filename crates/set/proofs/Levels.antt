@@ -7,7 +7,7 @@
 -- (Promises.antt: `…-kept`).
 -- Why: words that show a sound State have its L in their header; each operation on them is the State's, of which crate tree's Levelled.antt
 -- says how L moves. Assumes nothing.
-use mathlib.Core.Option.{none, some}
+use mathlib.Core.Option.{some}
 use mathlib.Core.Path.{◌≡◌, refl, ap, sym, ◌∙◌}
 use mathlib.Core.Logic.{◌≢◌}
 use mathlib.Core.Bool.{true, false, ◌&&◌}

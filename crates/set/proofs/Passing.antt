@@ -2,7 +2,7 @@
 -- 32-bit number (`passing_words`), and every operation leaves one: insert, delete, step, settle, and prepare (`…-passing`; of a span, SpanAnswers.antt).
 -- Why: each operation on words that show a sound State shows the State that the definition gives (the crates' `…-shows`), and that
 -- one is sound (crate tree's `…-sound`). Assumes nothing.
-use Rattle.std.specs.Prelude.{Result, Ok, Err}
+use Rattle.std.specs.Prelude.{Result}
 use mathlib.Core.Path.{◌≡◌, sym, ◌∙◌}
 use mathlib.Core.Logic.{◌↔◌}
 use mathlib.Core.Bool.{true, false≢true}

@@ -6,7 +6,6 @@ use Rattle.tree.specs.declared.Answer.{Answer}
 use Rattle.tree.specs.declared.Answer.TheVariants.{Done, Spent}
 use Rattle.tree.specs.Settle.{last_of, settled}
 use Rattle.format.specs.declared.Header.{Header}
-use Rattle.format.specs.Performing.{performed}
 use Rattle.kinds.specs.Effects.{header_after}
 use Rattle.steps.specs.Steps.{taken_words}
 use Rattle.steps.specs.declared.Lowest.{Lowest}

@@ -1,7 +1,5 @@
 -- The search of the table of kinds is the search of the list of kinds. Assumes nothing.
-use Rattle.std.proofs.Common.{rules, tests, sym, ◌∙◌, ap, ◌≡◌}
-use Rattle.std.specs.List.{find}
-use Rattle.std.specs.Prelude.{option_map}
+use Rattle.std.proofs.Common.{rules, tests, ◌∙◌}
 use Rattle.std.proofs.lemmas.Iterator.{YieldsList-from_slice}
 use Rattle.std.proofs.lemmas.Iterator.Search.{find_from_yields_List}
 use Rattle.tree.specs.Codes.{kinds}
@@ -12,5 +10,5 @@ pub returns : goal.returns
 unfolding lowest_around
 returns c =
     let found = find_from_yields_List (λ k. allowed_around k c.args.h c.args.s c.args.a) _ _ c.find.result c.find.ensures.ran
-        (YieldsList-from_slice kinds cc) (λ x b q k. search (rules, tests)) in
+    (YieldsList-from_slice kinds cc) (λ x b q k. search (rules, tests)) in
     c.copied.ensures ∙ found
