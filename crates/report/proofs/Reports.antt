@@ -28,10 +28,10 @@ module _ {p : List ℕ} {h : Header} (R : Rooted p h) where
       let w = R.weight_is in
       figures_fit S.tree (rw w at S.fine.chromatic) (omega (arith, S.fine.low)) S.fine.few
 
-  module _ {reds heavy : Counted} (A : Counts (reds_in h.nodes) p h.root h.nodes (allowance p) reds) (B : Counts (overs_in h.nodes) p h.root h.nodes (allowance p) heavy) where
+  module _ {reds heavy : Counted} (A : Counts (λ w t. reds_in h.nodes 1 t) p h.root h.nodes (allowance p) reds) (B : Counts (overs_in h.nodes) p h.root h.nodes (allowance p) heavy) where
     reds_are : reds ≡ counted (size R.standing.tree) (conflicts R.standing.tree) (red_distance (size R.standing.tree) R.standing.tree)
     unfolding reds_in if_red
-    reds_are = A R.standing ∙ rw (R.nodes_are, R.weight_is) (counted_eq refl (omega arith) (omega arith))
+    reds_are = A R.standing ∙ rw R.nodes_are (counted_eq refl (omega arith) (omega arith))
 
     heavy_are : heavy ≡ counted (size R.standing.tree) (excess_weight R.standing.tree) (over_distance (size R.standing.tree) R.standing.tree)
     unfolding overs_in

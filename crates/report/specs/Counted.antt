@@ -1,4 +1,4 @@
--- What the report's two walks down a tree ask for and answer: R and Q by reds, excess weight and D by over.
+-- What the report's two walks down a tree ask for and answer: R and Q by below_red and below_other, excess weight and D by over.
 -- Only private functions cite this page; it serves RULES 6.6.
 use Rattle.std.specs.Prelude.{◌≡◌, List, ℕ, pred, ◌+◌, ◌*◌, ◌≤◌, ◌<◌, ◌^◌}
 use Rattle.tree.specs.Tree.{Tree, size}

@@ -81,26 +81,52 @@ fn is_red(pool: &[u32], s: u32) -> bool
 }
 
 // 01: "a node below a red edge adds one conflict per red child edge, a node below any other edge (and the root) adds none, and each
-// passes its children to either." The subtree at slot s, whose edge is red or not, in a tree of n nodes, at most `left` nodes deep: its
-// conflicts, and outside(u) for each. Pool and n go along as they are: a struct of the two would be taken apart again in each contract.
-fn reds(pool: &[u32], under_red: bool, s: u32, n: u32, left: u32) -> Counted
-    requires { Standing pool.now s n left × (under_red ≡ red (slot_at pool.now s).weight) }
-    ensures { Counts (reds_in n) pool.now s n left result }
+// passes its children to either." The subtree at slot s, in a tree of n nodes, at most `left` nodes deep: its conflicts, and
+// outside(u) for each.
+// Two functions that call each other, by 01: "each passes its children to either".
+#[cycle(below_other_below_red_either)]
+fn below_red(pool: &[u32], s: u32, n: u32, left: u32) -> Counted
+    requires { Standing pool.now s n left }
+    ensures { Counts (λ w t. reds_in n 0 t) pool.now s n left result }
 {
     let c = get_slot(pool, s);
     if c.left == 0 {
         return lone_leaf();
     }
     let l = is_red(pool, c.left);
-    let a = reds(pool, l, c.left, n, left - 1);
+    let a = either(pool, l, c.left, n, left - 1);
     let r = is_red(pool, c.right);
-    let b = reds(pool, r, c.right, n, left - 1);
+    let b = either(pool, r, c.right, n, left - 1);
     let u = joined(a, b);
-    if !under_red {
-        return u;
-    }
     let own = u64::from(l) + u64::from(r);
     adding(u, own, own * outside(n, u.nodes))
+}
+
+#[cycle(below_other_below_red_either)]
+fn below_other(pool: &[u32], s: u32, n: u32, left: u32) -> Counted
+    requires { Standing pool.now s n left }
+    ensures { Counts (λ w t. reds_in n 1 t) pool.now s n left result }
+{
+    let c = get_slot(pool, s);
+    if c.left == 0 {
+        return lone_leaf();
+    }
+    let a = either(pool, is_red(pool, c.left), c.left, n, left - 1);
+    let b = either(pool, is_red(pool, c.right), c.right, n, left - 1);
+    joined(a, b)
+}
+
+// A child is passed to the rule of the edge that leads to it.
+#[cycle(below_other_below_red_either)]
+fn either(pool: &[u32], under_red: bool, s: u32, n: u32, left: u32) -> Counted
+    requires { Standing pool.now s n left × (under_red ≡ red (slot_at pool.now s).weight) }
+    ensures { Counts (reds_in n) pool.now s n left result }
+{
+    if under_red {
+        below_red(pool, s, n, left)
+    } else {
+        below_other(pool, s, n, left)
+    }
 }
 
 // 02 (iii): "weight less one", if the edge is overweighted.
@@ -137,7 +163,7 @@ fn step_bound(n: u64, d: u64, r: u64, q: u64) -> u64
     (3 * n + 1) * d + 2 * n * r + q
 }
 
-// 01: "takes an index, 1 first, and returns that number, 0 for a refused pool or any other index".
+// 01: "takes an index, 1 first, and returns that number, 0 for [..] any other index".
 #[tactic(auto, using(crate::proofs::Reports::figure_none), unfolding(crate::specs::Report::figure_at, tree::specs::State::figures))]
 pub fn figure_at(f: Figures, index: u32) -> u64
     ensures number { result ≡ figure_at index f }
@@ -165,7 +191,7 @@ fn figures(pool: &[u32], h: Header) -> Figures
         return Figures::default();
     }
     let left = allowance(pool);
-    let reds = reds(pool, false, h.root, h.nodes, left);
+    let reds = below_other(pool, h.root, h.nodes, left);
     let heavy = over(pool, h.root, h.nodes, left);
     let n = h.nodes as u64;
     let l = h.level as u64;
