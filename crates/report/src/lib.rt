@@ -83,7 +83,8 @@ fn is_red(pool: &[u32], s: u32) -> bool
 // 01: "a node below a red edge adds one conflict per red child edge, a node below any other edge (and the root) adds none, and each
 // passes its children to either." The subtree at slot s, in a tree of n nodes, at most `left` nodes deep: its conflicts, and
 // outside(u) for each.
-// Two functions that call each other, by 01: "each passes its children to either".
+// By 01 these are two functions that call each other. Pool and n go along as they are: a struct of the two would be taken apart again in each
+// contract.
 #[cycle(below_other_below_red_either)]
 fn below_red(pool: &[u32], s: u32, n: u32, left: u32) -> Counted
     requires { Standing pool.now s n left }
