@@ -21,6 +21,7 @@ use updates::{delete_under, insert_under, search_under};
 const ANSWER_WORDS: usize = 2;
 
 // One command, under the header that the commands before it left.
+// The operations are a closed set: of each the compiler asks for its arm.
 #[tactic(auto, unfolding(crate::specs::Operated::perform_on, crate::specs::Operated::operated))]
 fn perform(pool: &mut [u32], h: &mut Header, c: Command) -> Answer
     ensures answer { result ≡ (perform_on c pool.old h.old).result.answer }

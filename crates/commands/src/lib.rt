@@ -45,6 +45,7 @@ fn arguments_at(bytes: &[u8], operation: Operation, next: usize) -> Reading<Comm
 }
 
 // A whole batch: how many commands it has, or where it goes wrong. 02 (ii): "a 257th command, which counts before any fault inside it".
+// From place to place: where the next command begins is known once this one is read.
 #[tactic(auto, using(crate::proofs::Scanning::scan_starts, crate::proofs::Scanning::scan_ends, crate::proofs::Scanning::scan_over, crate::proofs::Scanning::scan_fault, crate::proofs::Scanning::scan_good))]
 pub fn scan(bytes: &[u8]) -> Result<usize, Fault>
     ensures { result ≡ scanned (read_batch bytes.now) }

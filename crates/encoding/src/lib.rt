@@ -27,6 +27,7 @@ pub enum Operation {
 }
 
 impl Operation {
+    // Their numbers, by name, for docs/RULES.md and for named.
     pub const SEARCH: u32 = Operation::Search as u32;
 
     pub const INSERT: u32 = Operation::Insert as u32;
@@ -66,6 +67,7 @@ impl Operation {
     }
 
     // The operation that a number names, if one does.
+    // An Option and no TryFrom: a caller makes a fault of None, and the fault needs the place of the number, which is not known here.
     pub fn named(number: u32) -> Option<Operation>
         ensures { result ≡ which number }
     {

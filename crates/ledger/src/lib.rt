@@ -89,6 +89,7 @@ pub fn may_send(pool: &mut [u32], notice: u32, resident: u32, limit: u32) -> Res
 }
 
 // A key of the notice: if it is a mark, it is deleted. How many went: 1, or 0.
+// A count and no flag: the counts are added up.
 #[tactic(auto, using(crate::proofs::Cleared::at_attempt_0, crate::proofs::Cleared::at_kept, crate::proofs::Cleared::at_gone))]
 fn clear_at(pool: &mut [u32], key: u32) -> u32
     requires passes { Passing pool.old }

@@ -87,7 +87,8 @@ fn text_of(bytes: &[u8]) -> Text
     text
 }
 
-// What the program prints, and how many bytes that is. The bytes after it stay as they were.
+// What the program prints, and how many bytes that is.
+// Into lent memory, with the count: the promise says that the bytes after it stay.
 pub fn render(bytes: &[u8], out: &mut [u8; MOST_PRINTED]) -> usize
     ensures count { result ≡ length (printed bytes.now) }
     ensures out { out.new ≡ sets out.old 0 (printed bytes.now) }

@@ -211,6 +211,7 @@ fn build_top(pool: &mut [u32], bytes: &[u8], n: u32, at: usize)
 }
 
 // What follows slot s on the chain of all slots up to `last`.
+// 0 at the end, as the word in the pool says it.
 #[tactic(auto, using(crate::proofs::Chaining::next_up, crate::proofs::Chaining::next_none))]
 fn next_free(s: u32, last: u32) -> u32
     ensures { result ≡ head_of (upwards (s + 1) (last - s)) }

@@ -74,6 +74,7 @@ fn further(bytes: &[u8], from: usize, low: u32) -> Reading<u32>
 const MOST_BYTES: usize = 5;
 
 // The bytes of v, and how many they are.
+// How many groups there are shows at the last, so no range; an array and a count, since the library stands on std alone.
 #[tactic(auto, using(crate::proofs::Putting::place_first, crate::proofs::Putting::place_count, crate::proofs::Putting::place_last, crate::proofs::Putting::place_more))]
 fn encode(v: u32) -> ([u8; MOST_BYTES], usize)
     ensures count { result.1 ≡ length (bytes_of v) }
@@ -92,6 +93,7 @@ fn encode(v: u32) -> ([u8; MOST_BYTES], usize)
 }
 
 // How many bytes v takes.
+// No call of this repository uses it any more; docs/THEOREMS.md names its promise.
 pub fn number_length(v: u32) -> usize
     ensures { result ≡ length (bytes_of v) }
 {
@@ -106,6 +108,7 @@ pub fn put_number(out: &mut [u8], at: usize, v: u32) -> usize
 {
     let (bytes, count) = encode(v);
     let room = out.len().saturating_sub(at);
+    // By the index: at may lie past the end, and what a slice is after a write through a part of it is not known here.
     for i in 0..count.min(room) {
         out[at + i] = bytes[i];
     }

@@ -39,6 +39,7 @@ pub fn prepare(pool: &mut [u32]) -> Result<(), Unsound>
             level: 0,
         },
     );
+    // load's chain_up chains a part of the slots, under a tree; here it is all of them.
     for s in 1..last {
         put_slot(pool, s, free_slot(s + 1));
     }
@@ -66,6 +67,7 @@ const MOST_SUM: u32 = MOST_LEVEL + ROOT_WEIGHT;
 
 // A slot whose left is 0, as a leaf with its key from lo to below hi. This and `join` are the rules of a tree's leaves and nodes, for the
 // audit's walk and for the reader of the saved form.
+// lo and hi: two numbers and no Range, which is no Copy.
 #[tactic(auto, unfolding(crate::specs::Visits::leaf_walk))]
 pub fn walk_leaf(c: Slot, lo: u64, hi: u64, rest: u32) -> Option<Whole>
     ensures { result ≡ leaf_walk c lo hi rest }
@@ -183,7 +185,7 @@ pub fn examine(pool: &[u32]) -> Result<Header, Unsound>
     walk_all(pool)
 }
 
-// 01: "audit and report give 0, 1 or 2".
+// The audit, without the header. Its number, 0, 1 or 2, is made by whoever exports it.
 #[tactic(auto, unfolding(format::specs::Audit::audit_code))]
 pub fn audit(pool: &[u32]) -> Result<(), Unsound>
     ensures code { audited_code result ≡ audit_code pool.now }

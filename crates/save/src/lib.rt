@@ -20,6 +20,7 @@ use tree::Refusal;
 const TWICE: u32 = 2;
 
 // Writes two numbers from place `at` on, and answers the place after them.
+// No writer that moves on: where there is no room the place still goes on, which is how the bytes are counted.
 #[tactic(auto, using(crate::proofs::Writing::pair_length_is))]
 fn put_pair(out: &mut [u8], at: usize, a: u32, b: u32) -> usize
     requires { at + length (bytes_of_all (a ∷ b ∷ [])) < 2 ^ 64 }
@@ -66,7 +67,7 @@ struct Kept<'a> {
 }
 
 impl<'a> Kept<'a> {
-    // The same of all its nodes: none where the root is 0.
+    // Writes all its nodes from place `at` on, and answers the place after them: none where the root is 0.
     #[tactic(auto, using(format::proofs::AuditCases::rules_are_kept, crate::proofs::Whole::root_placed))]
     fn put_nodes(self, out: &mut [u8], at: usize) -> usize
         requires { at < 2 ^ 32 }

@@ -12,6 +12,7 @@ use tree::Refusal;
 pub use updates::{delete, insert, search};
 
 // The audit, as an answer: refused with 1 or 2, or done.
+// 0 beside Ok, as each operation of the set answers a number.
 #[tactic(auto, unfolding(crate::specs::Inside::audit_answer))]
 pub fn audit_answer(pool: &[u32]) -> Result<u32, Refusal>
     ensures { answer_of result ≡ audit_answer pool.now }

@@ -11,7 +11,7 @@ block_size = 8
 abbrev pub group_size : ℕ
 group_size = 32
 
--- the blocks of 16,384 slots: the groups' numbers stand after them
+-- the blocks of 16,384 slots: the groups' places come after theirs
 abbrev pub most_blocks : ℕ
 most_blocks = 2048
 
@@ -21,7 +21,7 @@ most_groups = 64
 abbrev pub block_of : ℕ → ℕ
 block_of s = s / block_size
 
--- where the number of a group stands
+-- the place of a group
 abbrev pub group_place : ℕ → ℕ
 group_place g = most_blocks + g
 

@@ -39,7 +39,7 @@ first_from (suc n) h p s = elim (first_kind kinds h p s) [ some k ↦ Some (lowe
 abbrev pub first_allowed : Header → List ℕ → Found Lowest
 first_allowed h p = first_from (last_slot p) h p 1
 
--- What a scan finds, what is awake after it, and how many slots and numbers of blocks and groups it looks at. A block that is looked at
+-- What a scan finds, what is awake after it, and how many slots and places of blocks and groups it looks at. A block that is looked at
 -- counts with all its slots.
 pub record Scan : Type 0 where
   pub found : Found Lowest
@@ -53,7 +53,7 @@ scan f m n = record { found = f; awake = m; looks = n }
 abbrev pub after : ℕ → Scan → Scan
 after n r = scan r.found r.awake (n + r.looks)
 
--- A row of n numbers from i on, the first of which stands at the place `row + i`; `below i` scans what the number i speaks for. What is asleep is
+-- A row of n places, the first of which is `row + i`; `below i` scans the block or group whose place that is. What is asleep is
 -- passed over, and what allows nothing falls asleep.
 unfoldable pub row_from : (row : ℕ) → (ℕ → List Bool → Scan) → (n i : ℕ) → List Bool → Scan
 row_from row below zero i m = scan None m 0

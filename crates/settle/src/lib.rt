@@ -1,6 +1,7 @@
 // Document 01, settle on a pool's words, under a header that the caller has; and the same for a pool whose header lies in its first
 // words. After a step it looks only where that step can have made another one allowed: the slots are kept by blocks, and a block in which
 // none is allowed is asleep. Every function is total: on words that show no State it ends too, and its contract says what it does there.
+// Words and header are two parameters, as in crate updates.
 #![tactic(auto)]
 
 ghost use Rattle.std.specs.Prelude.{◌≡◌, suc, ◌-◌, ◌≤◌, slice_set};
@@ -26,7 +27,8 @@ const BLOCKS: usize = 2048;
 
 const PLACES: usize = 2112;
 
-// Whether the block or group whose place is i is awake. (The groups stand in the same table after the blocks: one scan serves both rows.)
+// Whether the block or group whose place is i is awake. As slots' word, which is of numbers.
+// The groups stand in the same table after the blocks: the definition's one scan of a row reads both.
 #[tactic(auto, unfolding(crate::specs::Awake::is_awake))]
 fn is_awake(awake: &[bool], i: usize) -> bool
     ensures { result ≡ is_awake awake.now i }
@@ -34,6 +36,7 @@ fn is_awake(awake: &[bool], i: usize) -> bool
     awake.get(i).copied().unwrap_or(false)
 }
 
+// As slots' put_word, which is of numbers.
 fn put_place(awake: &mut [bool], i: usize, x: bool)
     ensures { awake.new ≡ slice_set awake.old i x }
 {
@@ -74,7 +77,7 @@ fn wake_both(awake: &mut [bool], c: Pair)
     wake(awake, c.other);
 }
 
-// Whether a slot counts: every one does.
+// Whether a slot counts. Asked last, where a kind would be accepted: a seam, every slot counts today.
 #[tactic(auto, unfolding(crate::specs::Scanning::slot_counts))]
 fn slot_counts(pool: &[u32], h: Header, s: u32) -> bool
     ensures { result ≡ slot_counts h pool.now s }
@@ -82,8 +85,8 @@ fn slot_counts(pool: &[u32], h: Header, s: u32) -> bool
     true
 }
 
-// "the lowest slot with an allowed kind, and there the lowest kind", of the slots from `from` to below `to`. Steps' scan goes over all slots, where
-// every one counts.
+// "the lowest slot with an allowed kind, and there the lowest kind", of the slots from `from` to below `to`.
+// Steps' scan goes from slot 1 to the last and asks no slot whether it is one; a block here may begin at 0 and end past C.
 #[tactic(auto, using(crate::proofs::Scans::slots_bare, crate::proofs::Scans::slots_here, crate::proofs::Scans::slots_next, crate::proofs::Scans::slots_skipped, crate::proofs::Scans::slots_end))]
 fn first_among(pool: &[u32], h: Header, from: u32, to: u32) -> Option<Lowest>
     ensures { result ≡ first_from (to - from) h pool.now from }
@@ -103,6 +106,8 @@ fn first_among(pool: &[u32], h: Header, from: u32, to: u32) -> Option<Lowest>
 }
 
 // The same of the blocks of a group that are awake, up to that of the last slot. One that allows nothing falls asleep.
+// Pool and awake apart: a search reads the pool and changes awake alone.
+// Blocks and groups apart: each looks below in its own way.
 #[tactic(auto, using(crate::proofs::Scans::same_asleep, crate::proofs::Scans::same_nothing, crate::proofs::Scans::same_found, crate::proofs::Scans::same_end, crate::proofs::Scans::block_found, crate::proofs::Scans::block_leaves, crate::proofs::Scans::group_begins))]
 fn first_in_group(pool: &[u32], awake: &mut [bool], h: Header, g: u32) -> Option<Lowest>
     requires { suc g ≤ most_groups }
@@ -141,6 +146,7 @@ fn first_awake(pool: &[u32], awake: &mut [bool], h: Header) -> Option<Lowest>
 }
 
 // The slots below v that a kind can wake: those that it turns, and of kind 1 both children.
+// A closed set, as in kinds' fits.
 #[tactic(auto, unfolding(crate::specs::Waking::woken_below))]
 fn woken_below(kind: Kind, a: Around) -> Pair
     ensures { result ≡ woken_below kind a }
@@ -158,6 +164,7 @@ fn woken_below(kind: Kind, a: Around) -> Pair
 }
 
 // The weight of v, w before, after a kind below the root.
+// A closed set, as in kinds' fits; of the other kinds the weight stays.
 #[tactic(auto, unfolding(crate::specs::Waking::weight_after))]
 fn weight_after(kind: Kind, w: u32) -> u32
     ensures { result ≡ weight_after kind w }
@@ -186,6 +193,7 @@ fn grand_sees(w: u32, q: u32) -> bool
 
 // A search for the key from slot root on, until it meets slot s: the parent's slot and the grandparent's, 0 where there is none. It goes
 // down at most C slots, so it ends on any words.
+// Not descend: it ends where it meets s, and keeps two above it.
 #[tactic(auto, using(crate::proofs::Scans::kin_met, crate::proofs::Scans::kin_on, crate::proofs::Scans::kin_end), unfolding(crate::specs::Waking::kin_of))]
 fn kin_of(pool: &[u32], root: u32, key: u32, s: u32) -> Pair
     ensures { result ≡ kin_of pool.now root key s }
@@ -234,6 +242,7 @@ fn wake_around(pool: &[u32], awake: &mut [bool], h: Header, s: u32, kind: Kind, 
 }
 
 // "Settle repeats: the lowest slot with an allowed kind, and there the lowest kind, until none is left or the budget is spent."
+// The loop of steps' settle_under; its search changes what is awake, which steps' has not.
 #[tactic(auto, using(crate::proofs::SettleTurns::begin, crate::proofs::SettleTurns::turn, crate::proofs::SettleTurns::done, crate::proofs::SettleTurns::spent))]
 fn settle_from(pool: &mut [u32], awake: &mut [bool], h: &mut Header, budget: u32) -> Answer
     ensures answer { result ≡ (settle_from awake.old pool.old h.old budget).result.answer }
@@ -284,6 +293,7 @@ pub fn settle_after(pool: &mut [u32], h: &mut Header, key: u32, budget: u32) -> 
     settle_from(pool, &mut awake, h, budget)
 }
 
+// Header, work, L, as in steps; crate updates says at insert why no function takes the work.
 #[tactic(auto, unfolding(crate::specs::Settling::settle_answer, crate::specs::Settling::settle_words))]
 pub fn settle(pool: &mut [u32], budget: u32) -> Answer
     ensures answer { result ≡ settle_answer pool.old budget }

@@ -2,6 +2,7 @@
 // that the caller has; and the same for a pool whose header lies in its first words. On any words they end and are equations; what they mean
 // on words that show a sound State is said by `next_shows`, `count_shows` and `span_shows`.
 // A span is given by its ends a and b, as a command and the C interface give them: two numbers, and no type of its own.
+// Words and header are two parameters, as in crate updates.
 #![tactic(auto)]
 
 ghost use Rattle.std.specs.Prelude.{◌≡◌};
