@@ -86,6 +86,7 @@ pub fn batch(pool: &mut [u32], bytes: &[u8], answers: &mut [u32]) -> Result<(), 
     if !length_good(pool) {
         return Err(Refusal::PoolLength);
     }
+    // By a match: as `map_err(..)?` what is promised of the refusal was not proved.
     let count = match scan(bytes) {
         Ok(count) => count,
         Err(fault) => return Err(Refusal::BadCommand(fault.place as u32)),

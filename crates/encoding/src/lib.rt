@@ -67,7 +67,8 @@ impl Operation {
     }
 
     // The operation that a number names, if one does.
-    // An Option and no TryFrom: a caller makes a fault of None, and the fault needs the place of the number, which is not known here.
+    // An Option and no TryFrom: a caller makes a fault of None, and the fault needs the place of the number, which is not known here. And a match,
+    // no search of a table as for a kind: each command of a batch is read by it.
     pub fn named(number: u32) -> Option<Operation>
         ensures { result ≡ which number }
     {

@@ -36,8 +36,8 @@ fn arguments_good(notice: u32, resident: u32, limit: u32) -> bool
     notice_good(notice) && resident <= MOST_RESIDENT && (1..=MOST_ATTEMPTS).contains(&limit)
 }
 
-// `Passing` stands in four private contracts: as a ghost field of a struct over the lent pool it would have to be cut down to a proposition
-// (`∥ .. ∥₁`) and proved again at each write, beside a clause in each method that the reference stays the same.
+// `Passing` stands in four private contracts. It was tried as a ghost field of a struct over the lent pool: the check takes it there cut down to a
+// proposition alone (`∥ .. ∥₁`), and of that form no proof was found after a write.
 //
 // The lowest attempt from 1 to the limit that is not marked: at most `limit` searches. The key `first` is that of attempt 0.
 #[tactic(auto, using(crate::proofs::Asking::lowest_here, crate::proofs::Asking::lowest_on, crate::proofs::Asking::lowest_none, crate::proofs::Asking::search_misses, crate::proofs::Asking::search_finds))]

@@ -73,6 +73,7 @@ fn commands_in(bytes: &[u8]) -> usize
 fn text_of(bytes: &[u8]) -> Text
     ensures { result.bytes ≡ printed bytes.now }
 {
+    // of fixed size, for there is no heap
     let mut pool = [0u32; POOL_WORDS];
     let mut answers = [0u32; ANSWERS];
     let _ = prepare(&mut pool);

@@ -22,10 +22,8 @@ fn byte_at(bytes: &[u8], at: usize) -> Result<u32, Fault>
     ensures ok { IfOk result (λ b. (at < length bytes.now) × (b ≡ get_or bytes.now at 0) × (b < 256)) }
     ensures err { IfErr result (λ f. (length bytes.now ≤ at) × (f ≡ fault (length bytes.now))) }
 {
-    if bytes.len() <= at {
-        return Err(Fault { place: bytes.len() });
-    }
-    Ok(bytes[at] as u32)
+    let byte = bytes.get(at).ok_or(Fault { place: bytes.len() })?;
+    Ok(u32::from(*byte))
 }
 
 // The number at place `at`. Most are one byte long.
@@ -100,7 +98,8 @@ pub fn number_length(v: u32) -> usize
     encode(v).1
 }
 
-// Writes the bytes of v from place `at` on, and answers how many they are. Past the end nothing is written.
+// Writes the bytes of v from place `at` on, and answers how many they are. Past the end nothing is written. No writer that moves on: the place
+// goes on past the end, as save counts.
 #[tactic(auto, using(crate::proofs::Putting::bytes_most, crate::proofs::Putting::copy_first, crate::proofs::Putting::copy_next, crate::proofs::Putting::copy_last))]
 pub fn put_number(out: &mut [u8], at: usize, v: u32) -> usize
     ensures count { result ≡ length (bytes_of v) }

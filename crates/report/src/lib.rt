@@ -117,7 +117,7 @@ fn below_other(pool: &[u32], s: u32, n: u32, left: u32) -> Counted
     joined(a, b)
 }
 
-// A child is passed to the rule of the edge that leads to it.
+// By 01 each of the two "passes its children to either": a child is passed to the rule of the edge that leads to it.
 #[cycle(below_other_below_red_either)]
 fn either(pool: &[u32], under_red: bool, s: u32, n: u32, left: u32) -> Counted
     requires { Standing pool.now s n left × (under_red ≡ red (slot_at pool.now s).weight) }

@@ -1,5 +1,6 @@
 // A pool's words, lent: words, slots and the header, read and written by functions that are total. Past the end a read is 0 and a
-// write does nothing, so callers have no bounds to prove and every contract is an equation.
+// write does nothing, so callers have no bounds to prove and every contract is an equation. By 01 the pool is one lent slice of words, with no heap:
+// so slots name one another by number.
 #![tactic(auto)]
 
 ghost use Rattle.std.specs.Prelude.{◌≡◌, get_or, set, pred, ◌-◌};

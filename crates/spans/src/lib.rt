@@ -91,6 +91,7 @@ pub fn at_or_above(pool: &[u32], root: u32, key: u32) -> Result<u32, Refusal>
     Ok(c.key)
 }
 
+// Of one line, as count below and updates' search: nothing to share.
 #[tactic(auto, unfolding(crate::specs::Spanning::next_answer))]
 pub fn next_key(pool: &[u32], key: u32) -> Result<u32, Refusal>
     ensures answer { answer_of result ≡ next_answer pool.now key }
@@ -210,6 +211,7 @@ pub fn delete_span_under(pool: &mut [u32], h: &mut Header, a: u32, b: u32) -> u3
     most
 }
 
+// As insert of crate updates.
 #[tactic(auto, unfolding(crate::specs::Spanning::delete_span_answer, crate::specs::Spanning::delete_span_words))]
 pub fn delete_span(pool: &mut [u32], a: u32, b: u32) -> u32
     ensures answer { Done result ≡ delete_span_answer pool.old a b }
