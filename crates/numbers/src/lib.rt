@@ -2,7 +2,7 @@
 // 4,294,967,295."
 #![tactic(auto)]
 
-ghost use Rattle.std.specs.Prelude.{◌≡◌, false, ◌≤◌, ◌<◌, length, get_or, take, IfOk, IfErr};
+ghost use Rattle.std.specs.Prelude.{◌≡◌, false, ◌+◌, ◌≤◌, ◌<◌, length, get_or, IfOk, IfErr};
 ghost use Rattle.std.proofs.lemmas.List.Edits.{sets};
 ghost use Rattle.encoding.specs.Numbers.{fault, number, groups, below};
 ghost use Rattle.numbers.specs.Shortest.{bytes_of};
@@ -68,48 +68,92 @@ fn further(bytes: &[u8], from: usize, low: u32) -> Reading<u32>
     Err(Fault { place: last })
 }
 
-// So many bytes a number has at most.
-const MOST_BYTES: usize = 5;
+// From here on a number takes two bytes, three, four, five.
+const TWO_BYTES: u32 = GROUP;
 
-// The bytes of v, and how many they are.
-// How many groups there are shows at the last, so no range; an array and a count, since the library stands on std alone.
-#[tactic(auto, using(crate::proofs::Putting::place_first, crate::proofs::Putting::place_count, crate::proofs::Putting::place_last, crate::proofs::Putting::place_more))]
-fn encode(v: u32) -> ([u8; MOST_BYTES], usize)
-    ensures count { result.1 ≡ length (bytes_of v) }
-    ensures bytes { take result.1 result.0 ≡ bytes_of v }
-{
-    let mut bytes = [0; MOST_BYTES];
-    let mut left = v;
-    let mut count = 0;
-    while GROUP <= left {
-        bytes[count] = (GROUP + left % GROUP) as u8;
-        left /= GROUP;
-        count += 1;
-    }
-    bytes[count] = left as u8;
-    (bytes, count + 1)
-}
+const THREE_BYTES: u32 = GROUP * TWO_BYTES;
+
+const FOUR_BYTES: u32 = GROUP * THREE_BYTES;
+
+const FIVE_BYTES: u32 = GROUP * FOUR_BYTES;
+
+// So many bytes may follow the first.
+const MOST_MORE: usize = 4;
 
 // How many bytes v takes.
-// No call of this repository uses it any more; docs/THEOREMS.md names its promise.
+#[tactic(auto, using(crate::proofs::Putting::one_byte, crate::proofs::Putting::two_bytes, crate::proofs::Putting::three_bytes, crate::proofs::Putting::four_bytes, crate::proofs::Putting::five_bytes))]
 pub fn number_length(v: u32) -> usize
     ensures { result ≡ length (bytes_of v) }
 {
-    encode(v).1
+    if v < TWO_BYTES {
+        return 1;
+    }
+    if v < THREE_BYTES {
+        return 2;
+    }
+    if v < FOUR_BYTES {
+        return 3;
+    }
+    if v < FIVE_BYTES {
+        return 4;
+    }
+    5
+}
+
+// Writes the bytes of v from place `at` on, where there is room for the longest number, and answers how many they are. Beside put_some, from which
+// it differs in the test of the end, for speed (docs/DESIGN-PASS.md, twins, 16).
+#[tactic(auto, using(crate::proofs::Putting::place_first, crate::proofs::Putting::place_last, crate::proofs::Putting::place_fifth, crate::proofs::Putting::place_more))]
+fn put_whole(out: &mut [u8], at: usize, v: u32) -> usize
+    requires { at + 4 < length out.old }
+    ensures count { result ≡ length (bytes_of v) }
+    ensures out { out.new ≡ sets out.old at (bytes_of v) }
+{
+    let mut left = v;
+    let mut n = 0;
+    while n < MOST_MORE {
+        if left < GROUP {
+            out[at + n] = left as u8;
+            return n + 1;
+        }
+        out[at + n] = (GROUP + left % GROUP) as u8;
+        left /= GROUP;
+        n += 1;
+    }
+    out[at + n] = left as u8;
+    n + 1
+}
+
+// The same as far as there is room.
+#[tactic(auto, using(crate::proofs::Putting::put_first, crate::proofs::Putting::put_more, crate::proofs::Putting::put_last, crate::proofs::Putting::put_ended))]
+fn put_some(out: &mut [u8], at: usize, v: u32)
+    ensures { out.new ≡ sets out.old at (bytes_of v) }
+{
+    let mut left = v;
+    let mut i = at;
+    while i < out.len() {
+        if left < GROUP {
+            out[i] = left as u8;
+            return;
+        }
+        out[i] = (GROUP + left % GROUP) as u8;
+        left /= GROUP;
+        i += 1;
+    }
 }
 
 // Writes the bytes of v from place `at` on, and answers how many they are. Past the end nothing is written. No writer that moves on: the place
 // goes on past the end, as save counts.
-#[tactic(auto, using(crate::proofs::Putting::bytes_most, crate::proofs::Putting::copy_first, crate::proofs::Putting::copy_next, crate::proofs::Putting::copy_last))]
+#[tactic(auto, using(crate::proofs::Putting::past_end))]
 pub fn put_number(out: &mut [u8], at: usize, v: u32) -> usize
     ensures count { result ≡ length (bytes_of v) }
     ensures out { out.new ≡ sets out.old at (bytes_of v) }
 {
-    let (bytes, count) = encode(v);
-    let room = out.len().saturating_sub(at);
-    // By the index: at may lie past the end, and what a slice is after a write through a part of it is not known here.
-    for i in 0..count.min(room) {
-        out[at + i] = bytes[i];
+    if out.len() <= at {
+        return number_length(v);
     }
-    count
+    if MOST_MORE < out.len() && at < out.len() - MOST_MORE {
+        return put_whole(out, at, v);
+    }
+    put_some(out, at, v);
+    number_length(v)
 }

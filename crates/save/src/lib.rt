@@ -21,7 +21,9 @@ const TWICE: u32 = 2;
 
 // Writes two numbers from place `at` on, and answers the place after them.
 // No writer that moves on: where there is no room the place still goes on, which is how the bytes are counted.
+// Inline, for speed: a walk that counts has little to do at a node, and a call of this took a tenth of a save (docs/LOOK-BACK.md).
 #[tactic(auto, using(crate::proofs::Writing::pair_length_is))]
+#[inline(always)]
 fn put_pair(out: &mut [u8], at: usize, a: u32, b: u32) -> usize
     requires { at + length (bytes_of_all (a ∷ b ∷ [])) < 2 ^ 64 }
     ensures { Put (a ∷ b ∷ []) out.old out.new at result }
