@@ -13,7 +13,7 @@ ghost use Rattle.settle.specs.Settling.{settle_from, settle_under, settled_after
 
 use format::Header;
 use kinds::{Around, look};
-use slots::{get_header, get_slot, last_slot, put_level};
+use slots::{get_header, get_slot, last_slot, one_less, put_level};
 use steps::{Lowest, is_inner, lowest_around, take_step};
 use tree::{Answer, Kind};
 use updates::{descend, toward};
@@ -170,7 +170,7 @@ fn weight_after(kind: Kind, w: u32) -> u32
     ensures { result ≡ weight_after kind w }
 {
     match kind {
-        Kind::Blacken => w.saturating_sub(1),
+        Kind::Blacken => one_less(w),
         Kind::Lighten => w.wrapping_add(1),
         _ => w,
     }

@@ -162,7 +162,6 @@ pub fn is_slot(pool: &[u32], s: u32) -> bool
 }
 
 // A weight or a count that falls by 1; 0 stays.
-// No call of this repository uses it any more; docs/THEOREMS.md names its promise.
 pub fn one_less(n: u32) -> u32
     ensures { result ≡ pred n }
 {
@@ -170,7 +169,6 @@ pub fn one_less(n: u32) -> u32
 }
 
 // n less `by`; it falls to 0 and no further.
-// No call of this repository uses it any more; docs/THEOREMS.md names its promise.
 pub fn less_by(n: u32, by: u32) -> u32
     ensures { result ≡ n - by }
 {

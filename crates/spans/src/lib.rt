@@ -13,7 +13,7 @@ ghost use Rattle.tree.specs.Spans.{within};
 ghost use Rattle.spans.specs.Spanning.{turn, turns_to, next_beside, at_or_above, next_answer, visited, tally_from, count_under, next_to, delete_span_under, count_answer, delete_span_answer, delete_span_words};
 
 use format::{Header, Slot};
-use slots::{get_header, get_slot, last_slot, put_header, slots_in};
+use slots::{get_header, get_slot, last_slot, one_less, put_header, slots_in};
 use tree::Refusal;
 use updates::{delete_under, descend};
 
@@ -121,7 +121,7 @@ fn visited(t: Tally, keys: u32) -> Tally
 {
     Tally {
         keys: t.keys.wrapping_add(keys),
-        left: t.left.saturating_sub(1),
+        left: one_less(t.left),
     }
 }
 
