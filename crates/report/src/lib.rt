@@ -164,19 +164,34 @@ fn step_bound(n: u64, d: u64, r: u64, q: u64) -> u64
     (3 * n + 1) * d + 2 * n * r + q
 }
 
+// The indices of the seven numbers.
+pub const NODES: u32 = 1;
+
+pub const LEVEL: u32 = 2;
+
+pub const EXCESS_WEIGHT: u32 = 3;
+
+pub const CONFLICTS: u32 = 4;
+
+pub const OVER_DISTANCE: u32 = 5;
+
+pub const RED_DISTANCE: u32 = 6;
+
+pub const BOUND: u32 = 7;
+
 // 01: "takes an index, 1 first, and returns that number, 0 for [..] any other index".
 #[tactic(auto, using(crate::proofs::Reports::figure_none), unfolding(crate::specs::Report::figure_at, tree::specs::State::figures))]
 pub fn figure_at(f: Figures, index: u32) -> u64
     ensures number { result ≡ figure_at index f }
 {
     match index {
-        1 => f.nodes,
-        2 => f.level,
-        3 => f.excess_weight,
-        4 => f.conflicts,
-        5 => f.over_distance,
-        6 => f.red_distance,
-        7 => f.bound,
+        NODES => f.nodes,
+        LEVEL => f.level,
+        EXCESS_WEIGHT => f.excess_weight,
+        CONFLICTS => f.conflicts,
+        OVER_DISTANCE => f.over_distance,
+        RED_DISTANCE => f.red_distance,
+        BOUND => f.bound,
         _ => 0,
     }
 }
