@@ -7,5 +7,6 @@ pub mod Levels
 pub mod SixWords
 pub mod Spans
 pub mod Sends
+pub mod Coded
 pub mod Decides
 pub mod Sizes

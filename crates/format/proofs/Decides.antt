@@ -18,6 +18,6 @@ part_place_decides κs a x y e f p q = equal p q
 pub part_of_decides : DecidesResult 0 part-of-kinds.ps part-of-kinds.r part-of-reads.Post
 part_of_decides κs a x y e f p q = equal p q
 
--- of what the audit answers, the refusal and so the code
-pub audited_code_decides : DecidesResult 0 refusal-from-kinds.ps refusal-from-kinds.r refusal-from-reads.Post
-audited_code_decides κs a x y e f p q = equal p q
+-- of why a pool fails the audit, the refusal; of the audit's code, 0 too, `audited_code_decides` in crate chromatic
+pub refusal_from_decides : DecidesResult 0 refusal-from-kinds.ps refusal-from-kinds.r refusal-from-reads.Post
+refusal_from_decides κs a x y e f p q = equal p q

@@ -178,6 +178,12 @@ module _ (bytes : List ℕ) (at lo hi left most : ℕ) {a i k j : ℕ} (first : 
             let S = one_tree L.right_there B.there in
             record { same_sum = omega (arith, L.same_sum, S.weight_same, alike_level S.tree_same, B.sum_is); low = L.low }
 
+        -- Where the two cannot be joined there is no tree, just as they are asked for or not.
+        pub judge_apart : {r : Option Whole} → r ≡ join_walk (a / 2) rest al bl → r ≡ None → NoneFound bytes at lo hi left most
+        judge_apart e none w t n there fits few =
+            let joins = join_good (a / 2) rest al bl (join_here there fits) in
+            cc
+
         -- Both were found, just as they are asked for.
         pub judge_join : x ≡ lo → y ≡ most - 1 → z ≡ more → {r : Option Whole} → r ≡ join_walk (a / 2) rest al bl → WalkSays bytes at lo hi left most end r
         unfolding Ordered Chromatic level size depth

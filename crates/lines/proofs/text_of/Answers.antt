@@ -6,7 +6,8 @@ use Rattle.lines.proofs.text_of.Goals as goal
 pub returns-in-Ok : goal.returns-in-Ok
 returns-in-Ok c =
     let e = c.in-Ok.ensures in
-    c.put_lines.ensures ∙ rw c.new-text.ensures (text_ran c.args.bytes.now c.prepare.ensures.pool e.code e.answers (search rules) c.commands_in-count.result c.commands_in-count.ensures.few c.commands_in-count.ensures.count)
+    let said = text_ran c.args.bytes.now c.prepare.ensures.pool e.code e.answers (search rules) c.commands_in-count.result c.commands_in-count.ensures.few c.commands_in-count.ensures.count in
+    c.put_lines.ensures ∙ search (said, rules)
 
 pub returns-in-Err : goal.returns-in-Err
 returns-in-Err c =

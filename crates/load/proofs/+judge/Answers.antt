@@ -1,6 +1,6 @@
 -- Each of its returns says what it should by a law of Judging.antt. Assumes nothing.
 use Rattle.std.proofs.Common.{refl, arith}
-use Rattle.load.proofs.Judging.{read_ok, judge_short, judge_none, judge_leaf, judge_left, judge_right, judge_join}
+use Rattle.load.proofs.Judging.{read_ok, judge_short, judge_none, judge_leaf, judge_left, judge_right, judge_apart, judge_join}
 use Rattle.load.proofs.+judge.Goals as goal
 
 pub returns-then-left-lt1 : goal.returns-then-left-lt1
@@ -43,7 +43,7 @@ returns-in_err-node t c =
     let A = rw c.in_ok-l.was at c.judge.ensures in
     let B = rw c.in_ok-r.was at c.judge-2.ensures in
     rw c.from_residual-in_err-node.ensures
-    (rw c.in_err-node.was at (judge_join _ _ _ _ _ _ first second c.if-left-lt1.false c.if-most-lt1.false c.if-a-eq0.false A B refl refl refl c.join.ensures))
+    (judge_apart _ _ _ _ _ _ first second c.if-left-lt1.false c.if-most-lt1.false c.if-a-eq0.false A B c.join.ensures c.in_err-node.was)
 
 pub returns : goal.returns
 returns t c =
